@@ -1,0 +1,6 @@
+pub mod Lists
+mod StraightLaw
+mod CarriageLaw
+mod CarriageChecks
+mod SeriesLaw
+mod Through

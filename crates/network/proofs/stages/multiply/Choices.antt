@@ -1,0 +1,11 @@
+use mathlib.Core.Path.{_≡_}
+use Prim.Native.Nat.{ℕ, _<_, _≤_}
+use Rattle.scale.specs.Algebra.{product-of}
+use Rattle.network.specs.Lists.{at}
+use Rattle.network.specs.Kinds.{coefficient-at}
+use Rattle.network.proofs.stages.multiply.Given as given
+
+abbrev pub Inv-loop-i : given.InvT-loop-i
+Inv-loop-i g l =
+    ((k : ℕ) → k < l .i → at (l .out) k ≡ product-of (g .S·Scale .algebra) (coefficient-at (l .coefficients) k) (at (l .entry .out) k))
+    × ((k : ℕ) → l .i ≤ k → at (l .out) k ≡ at (l .entry .out) k)

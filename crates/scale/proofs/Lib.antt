@@ -1,0 +1,2 @@
+mod MinutesLaw
+pub mod Everywhere

@@ -1,0 +1,4 @@
+pub mod Algebra
+pub mod Minutes
+pub mod Grades
+pub mod Presence

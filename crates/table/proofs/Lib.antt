@@ -1,0 +1,3 @@
+mod Folds
+mod Places
+mod TableLaw
