@@ -4,3 +4,4 @@ mod CarriageLaw
 mod CarriageChecks
 mod SeriesLaw
 mod Through
+pub mod InOrder

@@ -16,13 +16,13 @@ use table::Table;
 use table::TableNetwork;
 
 // The rows (3, 0) and (1, 2).
-const MINUTES: [Option<i32>; 4] = [Some(3), Some(0), Some(1), Some(2)];
+pub(crate) const MINUTES: [Option<i32>; 4] = [Some(3), Some(0), Some(1), Some(2)];
 
 // The rows (9, 4) and (6, 12).
 const GRADES: [Option<i32>; 4] = [Some(9), Some(4), Some(6), Some(12)];
 
 // One table in minutes.
-pub fn minutes_hall(rt: &LibcRuntime) -> Result<(), AnyError> {
+pub(crate) fn minutes_hall(rt: &LibcRuntime) -> Result<(), AnyError> {
     println!(rt, "A hall in minutes: 2 benches, 2 stations.")?;
     println!(
         rt,
@@ -40,7 +40,7 @@ pub fn minutes_hall(rt: &LibcRuntime) -> Result<(), AnyError> {
 }
 
 // A straight before the table, and a carriage over both.
-pub fn minutes_pile(rt: &LibcRuntime) -> Result<(), AnyError> {
+pub(crate) fn minutes_pile(rt: &LibcRuntime) -> Result<(), AnyError> {
     println!(rt, "The same hall behind a straight, under a carriage:")?;
     println!(
         rt,
@@ -66,7 +66,7 @@ pub fn minutes_pile(rt: &LibcRuntime) -> Result<(), AnyError> {
 }
 
 // One table in fit grades.
-pub fn grades_hall(rt: &LibcRuntime) -> Result<(), AnyError> {
+pub(crate) fn grades_hall(rt: &LibcRuntime) -> Result<(), AnyError> {
     println!(rt, "A hall in fit grades, 0 to 15: 2 benches, 2 stations.")?;
     println!(
         rt,

@@ -5,7 +5,11 @@ use network::reaches_in_time;
 use std::error::AnyError;
 
 // Asks for the latest starts that keep two limits, checks them, and tries one more on each bench.
-pub fn deadlines<N: Network>(rt: &LibcRuntime, hall: &N, limits: [i32; 2]) -> Result<(), AnyError> {
+pub(crate) fn deadlines<N: Network>(
+    rt: &LibcRuntime,
+    hall: &N,
+    limits: [i32; 2],
+) -> Result<(), AnyError> {
     let [first, second] = limits;
     println!(
         rt,
@@ -46,7 +50,7 @@ fn reached<N: Network>(
 }
 
 // Asks with a limit too many.
-pub fn turned_away<N: Network>(rt: &LibcRuntime, hall: &N) -> Result<(), AnyError> {
+pub(crate) fn turned_away<N: Network>(rt: &LibcRuntime, hall: &N) -> Result<(), AnyError> {
     println!(rt, "  Asked for the latest starts with three limits:")?;
     let mut starts = [7; 2];
     let Err(refusal) = hall.latest(&[100, 100, 100], &mut starts) else {

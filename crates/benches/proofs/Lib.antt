@@ -1,0 +1,4 @@
+mod Turns
+mod Fills
+mod WindowChecks
+pub mod Parts

@@ -1,0 +1,5 @@
+pub mod Plans
+pub mod Sheets
+pub mod Calls
+pub mod Runs
+pub mod Laws

@@ -1,0 +1,4 @@
+mod Changes
+mod Verdicts
+mod Reached
+mod Founded
