@@ -1,12 +1,12 @@
 -- The first records of a table of 32. Assumes nothing.
-use mathlib.Core.Path.{_≡_, refl, sym, ap, subst, _∙_}
+use mathlib.Core.Path.{_≡_, refl, sym, ap, _∙_}
 use mathlib.Core.List.{List, [], _∷_, _++_}
 use mathlib.Core.Logic.{⊎-elim}
 use Prim.Native.Nat.{ℕ, zero, suc, _+_, _<_, _≤_, _-_, min}
 use native.Mathlib.Omega.{arith}
 use native.Mathlib.Nat.{le-of-suc-le-suc}
 use native.Mathlib.Numerals.{add-one}
-use lib.ListN.{length, getD, set, take, drop}
+use lib.ListN.{length, set, take}
 use borrow.Rule.Slice.PartMut.{midOf, postOf}
 use Rattle.std.proofs.shelf.Lists.{length-take, take-all}
 use Rattle.std.proofs.shelf.Tests.{cases-lt}

@@ -10,7 +10,6 @@ use Rattle.network.specs.declared.refusal.Refusal.{Refusal}
 use Rattle.network.specs.Networks.{Meaning}
 use Rattle.network.specs.Refusals.{number}
 use Rattle.network.specs.Checks.{Checked}
-use Rattle.model.specs.declared.Window.{Window}
 use Rattle.model.specs.Plans.{Model, starts}
 use Rattle.model.specs.Calls.{starts-checks}
 use Rattle.benches.specs.Answers.{answer}

@@ -18,7 +18,6 @@ use Rattle.model.specs.Runs.{Call as TheCall, Reply as TheReply, History, found
 use Rattle.benches.specs.Answers.{told}
 use Rattle.plan.specs.declared.plan.Plan.{Plan}
 use Rattle.plan.specs.Models.{model}
-use Rattle.journal.specs.declared.calls.Call.{Call}
 use Rattle.journal.specs.declared.replies.Reply.{Reply}
 use Rattle.journal.specs.declared.entries.Journal.{Journal}
 use Rattle.journal.specs.declared.unstarted.Unstarted.{Unstarted}

@@ -1,5 +1,4 @@
 // What a call answers.
-ghost use Prim.Native.Nat.{_≤_};
 use model::State;
 use model::Window;
 use network::Refusal;

@@ -1,8 +1,8 @@
 -- What the checks of an accepted call say, by name: the only place that depends on their order. Assumes nothing.
 use mathlib.Core.Path.{_≡_}
-use mathlib.Core.List.{List, [], _∷_, _++_}
+use mathlib.Core.List.{List, [], _∷_}
 use mathlib.Core.Logic.{inl, inr, _≢_}
-use Prim.Native.Nat.{ℕ, zero, suc, _≤_, _<_}
+use Prim.Native.Nat.{ℕ, suc, _≤_, _<_}
 use native.Mathlib.Decide.{ℕ-discrete}
 use native.Mathlib.Omega.{arith}
 use lib.ListN.{length}
@@ -13,13 +13,11 @@ use Rattle.network.specs.Networks.{Meaning}
 use Rattle.network.specs.Checks.{accepted, Checked}
 use Rattle.network.proofs.InOrder.{checked-both}
 use Rattle.model.specs.declared.Window.{Window}
-use Rattle.model.specs.declared.Bench.{Bench}
-use Rattle.model.specs.declared.State.{State}
 use Rattle.model.specs.declared.State.the-variants.{Impossible}
 use Rattle.model.specs.Plans.{Model}
 use Rattle.model.specs.Sheets.{Side}
-use Rattle.model.specs.Calls.{NotOfScale, table-of, bench-of, hall-of, window-check, window-checks, size-checks, found-checks, ceiling-checks, floor-checks, lower-checks, raise-checks, window-value-checks, wider-checks, loosen-checks, exchange-checks}
-use Rattle.model.proofs.Order.{≤-trans, not-lt}
+use Rattle.model.specs.Calls.{NotOfScale, table-of, bench-of, hall-of, window-checks, found-checks, lower-checks, raise-checks, loosen-checks, exchange-checks}
+use Rattle.scale.proofs.Integers.{≤-trans, not-lt}
 use Rattle.model.proofs.Tables.{Proper}
 
 pub same-count : (a b : ℕ) → ¬ (a ≢ b) → a ≡ b

@@ -1,12 +1,12 @@
 -- The laws of an advance, and of solving again. Assumes nothing.
 use mathlib.Core.Path.{_≡_, refl, sym, ap, subst, _∙_}
 use mathlib.Core.List.{List, [], _∷_, map}
-use mathlib.Core.Bool.{Bool, true, false, cond}
+use mathlib.Core.Bool.{Bool, false, cond}
 use mathlib.Core.Logic.{⊎-elim}
 use Prim.Native.Nat.{ℕ, zero, suc, _+_, _≤_, _<_}
 use native.Mathlib.Nat.{zero-add}
 use native.Mathlib.Omega.{arith}
-use lib.ListN.{length, getD}
+use lib.ListN.{getD}
 use lib.IntN.{ℤ, pos}
 use lib.Signed.{_≤ℤ_, _<ℤ_, ltZ}
 use Rattle.std.proofs.shelf.Signed.{ints}
@@ -15,12 +15,12 @@ use Rattle.scale.specs.Algebra.{Algebra, LawfulScale}
 use Rattle.network.specs.Checks.{accepted}
 use Rattle.model.specs.declared.Bench.{Bench}
 use Rattle.model.specs.declared.State.{State}
-use Rattle.model.specs.declared.State.the-variants.{Open, InStep, Impossible}
-use Rattle.model.specs.Plans.{Model, starts, round, Rounds, slack}
-use Rattle.model.specs.Sheets.{Sheet, own-sheet, fresh, Greatest, alter}
-use Rattle.model.specs.Calls.{no-bench, table-of, bench-of, change-at, lower-bench, lowered, adopt-bench, adopted, Lowered, Advanced, Adopted}
+use Rattle.model.specs.declared.State.the-variants.{Open, InStep}
+use Rattle.model.specs.Plans.{Model, round, Rounds, slack}
+use Rattle.model.specs.Sheets.{Sheet, own-sheet, fresh}
+use Rattle.model.specs.Calls.{no-bench, bench-of, change-at, lower-bench, lowered, adopt-bench, adopted, Lowered, Advanced, Adopted}
 use Rattle.model.specs.Runs.{History, Run}
-use Rattle.model.specs.Laws.{SameStarts, AdvanceLaws, AgainLaws, SolvingAgain}
+use Rattle.model.specs.Laws.{SameStarts, SolvingAgain}
 use Rattle.model.proofs.Tables.{lower-same, adopt-starts}
 use Rattle.model.proofs.Invariant.{Core, Good, lefts, rights, core-greatest, fresh-core, fresh-sheet, open-not-step, decided-state, step-of}
 use Rattle.model.proofs.Round.{rounds-sheet, rounds-good, advance-decides}

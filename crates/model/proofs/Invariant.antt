@@ -1,5 +1,5 @@
 -- What holds of a plan and its sheet between any two calls. Assumes nothing.
-use mathlib.Core.Path.{_≡_, refl, sym, ap}
+use mathlib.Core.Path.{_≡_, refl, ap}
 use mathlib.Core.List.{List}
 use Prim.Native.Nat.{ℕ}
 use native.Mathlib.Omega.{arith}
@@ -8,7 +8,6 @@ use lib.IntN.{ℤ}
 use Rattle.scale.specs.Algebra.{Algebra}
 use Rattle.network.specs.Lists.{_≼_, Row}
 use Rattle.network.specs.Networks.{Meaning, LawfulNetwork}
-use Rattle.model.specs.declared.Bench.{Bench}
 use Rattle.model.specs.declared.State.{State}
 use Rattle.model.specs.declared.State.the-variants.{Open, InStep, Impossible}
 use Rattle.model.specs.Plans.{Model, starts}

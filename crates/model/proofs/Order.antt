@@ -1,39 +1,16 @@
 -- Laws of the order of lists, place by place. Assumes nothing.
 use mathlib.Core.Path.{_≡_, refl, sym, ap, ap₂, subst, _∙_}
 use mathlib.Core.List.{List, [], _∷_}
-use mathlib.Core.Logic.{_⊎_, inl, inr, ⊎-elim}
-use mathlib.Core.Bool.{Bool, true, false, _&&_, _||_, cond}
-use Prim.Native.Nat.{ℕ, suc, zero}
+use mathlib.Core.Logic.{_⊎_, inl, inr}
+use mathlib.Core.Bool.{Bool, true, false, _&&_, _||_}
+use Prim.Native.Nat.{ℕ, suc}
 use native.Mathlib.Omega.{arith}
 use lib.Dec.{T, eqb, eqb→eq, eqb-refl}
 use lib.ListN.{length}
 use lib.IntN.{ℤ, pos, negsuc}
-use lib.Signed.{_≤ℤ_, _<ℤ_, ltZ}
-use Rattle.std.specs.Numbers.{minZ}
-use Rattle.std.proofs.shelf.Signed.{ints, clamps, by-ltZ}
+use Rattle.scale.proofs.Integers.{≤-refl, ≤-trans, ≤-antisym}
 use Rattle.network.specs.Lists.{_≼_}
 use Rattle.model.specs.Plans.{same-number, same-list}
-
-pub ≤-refl : (a : ℤ) → a ≤ℤ a
-≤-refl a = omega (arith, ints)
-
-pub ≤-trans : (a b c : ℤ) → a ≤ℤ b → b ≤ℤ c → a ≤ℤ c
-≤-trans a b c h k = omega (arith, ints)
-
-pub ≤-antisym : (a b : ℤ) → a ≤ℤ b → b ≤ℤ a → a ≡ b
-≤-antisym a b h k = omega (arith, ints)
-
-pub min-left : (a b : ℤ) → minZ a b ≤ℤ a
-min-left a b = omega (arith, ints, clamps)
-
-pub min-right : (a b : ℤ) → minZ a b ≤ℤ b
-min-right a b = omega (arith, ints, clamps)
-
-pub min-above : (a b c : ℤ) → c ≤ℤ a → c ≤ℤ b → c ≤ℤ minZ a b
-min-above a b c h k = omega (arith, ints, clamps)
-
-pub not-lt : (a b : ℤ) → ¬ (a <ℤ b) → b ≤ℤ a
-not-lt a b h = by-ltZ a b (λ l. absurd (h l)) (λ l. l)
 
 pub ≼-refl : (x : List ℤ) → x ≼ x
 ≼-refl [] = tt

@@ -2,17 +2,16 @@
 use mathlib.Core.Path.{_≡_, refl, sym, ap, ap₂, subst, _∙_}
 use mathlib.Core.List.{List}
 use Prim.Native.Nat.{ℕ}
-use lib.IntN.{ℤ, pos}
-use lib.Signed.{_<ℤ_}
+use lib.IntN.{ℤ}
 use Rattle.scale.specs.Algebra.{Algebra, LawfulScale}
 use Rattle.network.specs.Networks.{LawfulNetwork}
 use Rattle.network.specs.Checks.{Answer, accepted, refused}
 use Rattle.model.specs.declared.State.{State}
-use Rattle.model.specs.declared.State.the-variants.{Open, InStep, Impossible}
-use Rattle.model.specs.Plans.{Model, slack}
+use Rattle.model.specs.declared.State.the-variants.{Open}
+use Rattle.model.specs.Plans.{Model}
 use Rattle.model.specs.Sheets.{Side, Sheet, new-sheet, own-sheet, fresh, Greatest, put-ceiling, put-floor, put-both, rewrite-at, put-network, put-ceilings}
-use Rattle.model.specs.Calls.{lower-bench, raise-bench, lowered, raised, adopted, Changes, Founded, Lowered, Raised, Loosened, Exchanged, Advanced, Adopted}
-use Rattle.model.specs.Runs.{Reading, Call, lower, raise, loosen, exchange, advance, adopt, reading, Reply, done, turned-away, advanced, state-is, slack-is, window-is, starts-are, reply, Read, Does, History, found, _then_, Takes, Writes, SheetOf, Offers, Run, founds, goes-on, Enough, Granted, Lawful, Law}
+use Rattle.model.specs.Calls.{lower-bench, raise-bench, lowered, raised, adopted, Lowered, Raised, Loosened, Exchanged, Advanced, Adopted}
+use Rattle.model.specs.Runs.{Reading, Call, lower, raise, loosen, exchange, advance, adopt, reading, Reply, done, turned-away, advanced, state-is, slack-is, window-is, starts-are, reply, Does, History, found, _then_, Takes, Writes, SheetOf, Offers, Run, founds, goes-on, Enough, Granted, Law}
 use Rattle.model.proofs.Order.{≼-antisym}
 use Rattle.model.proofs.Invariant.{Core, Good, lefts, rights, core-greatest, fresh-core, fresh-sheet, decided-state, other-state, step-of}
 use Rattle.model.proofs.Round.{rounds-sheet, rounds-good, advance-decides}

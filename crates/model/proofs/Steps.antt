@@ -8,7 +8,7 @@ use lib.ListN.{length, getD}
 use lib.IntN.{ℤ}
 use lib.Signed.{_≤ℤ_, _<ℤ_, ltZ}
 use Rattle.std.proofs.shelf.Signed.{ints}
-use Rattle.scale.specs.Algebra.{Algebra, LawfulScale}
+use Rattle.scale.specs.Algebra.{Algebra}
 use Rattle.network.specs.Lists.{_≼_}
 use Rattle.network.specs.Networks.{Meaning, LawfulNetwork}
 use Rattle.model.specs.declared.Window.{Window}

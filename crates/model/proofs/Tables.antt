@@ -1,24 +1,25 @@
 -- Tables of benches: what a cut, a fresh start and a changed window do to starts and windows. Assumes nothing.
-use mathlib.Core.Path.{_≡_, refl, sym, ap, ap₂, subst, _∙_}
+use mathlib.Core.Path.{_≡_, refl, sym, ap, _∙_}
 use mathlib.Core.List.{List, [], _∷_, map}
-use mathlib.Core.Logic.{_⊎_, inl, inr, ⊎-elim}
-use mathlib.Core.Bool.{Bool, true, false, _&&_, _||_, cond}
-use Prim.Native.Nat.{ℕ, suc, zero, _<_, _≤_}
+use mathlib.Core.Logic.{inl, inr}
+use mathlib.Core.Bool.{true, false}
+use Prim.Native.Nat.{ℕ, suc, zero, _<_}
 use native.Mathlib.Nat.{le-of-suc-le-suc}
 use native.Mathlib.Omega.{arith}
 use lib.ListN.{length, getD}
 use lib.IntN.{ℤ, pos, _+ℤ_, _-ℤ_}
 use lib.Signed.{_≤ℤ_, _<ℤ_, ltZ}
 use Rattle.std.specs.Numbers.{minZ}
-use Rattle.std.proofs.shelf.Signed.{ints, clamps, by-ltZ}
+use Rattle.std.proofs.shelf.Signed.{ints}
 use Rattle.network.specs.Lists.{_≼_, Values, Row}
-use Rattle.scale.specs.Algebra.{Algebra, Value}
+use Rattle.scale.specs.Algebra.{Algebra}
 use Rattle.model.specs.declared.Bench.{Bench}
 use Rattle.model.specs.Plans.{starts, cut, fallen, spare, same-number, same-list}
 use Rattle.model.specs.declared.Window.{Window}
 use Rattle.model.specs.Sheets.{Keeps, window, windows, fresh-bench, alter, put-ceiling, put-floor, put-both, under}
 use Rattle.model.specs.Calls.{lower-bench, raise-bench, adopt-bench}
-use Rattle.model.proofs.Order.{≤-refl, ≤-trans, ≤-antisym, min-left, min-right, min-above, not-lt, ≼-refl, ≼-trans, same-number-true, same-number-false, and-true, and-false, or-true, or-false, same-list-true, same-list-same, true-not-false}
+use Rattle.scale.proofs.Integers.{≤-refl, ≤-trans, min-left, min-right, min-above}
+use Rattle.model.proofs.Order.{≼-refl, same-number-false, and-false, or-true, or-false, same-list-same, true-not-false}
 
 -- every window lies in the range, its floor at most its ceiling
 abbrev pub Proper : Algebra → List Window → Type 0

@@ -2,16 +2,15 @@
 use mathlib.Core.Path.{_≡_, ap, subst}
 use mathlib.Core.List.{List, [], _∷_}
 use mathlib.Core.Logic.{inl, inr}
-use Prim.Native.Nat.{ℕ, zero, suc, _<_, _+_}
+use Prim.Native.Nat.{ℕ, zero, suc, _+_}
 use native.Mathlib.Nat.{le-of-suc-le-suc}
 use native.Mathlib.Omega.{arith}
 use lib.IntN.{ℤ}
-use lib.ListN.{length}
 use Rattle.std.specs.declared.option.Option.{Option}
 use Rattle.std.specs.declared.option.Option.the-variants.{Some, None}
-use Rattle.scale.specs.Algebra.{Algebra, counted}
+use Rattle.scale.specs.Algebra.{Algebra}
 use Rattle.network.specs.Checks.{Checked, accepted, refused}
-use Rattle.network.specs.Kinds.{coefficient-at, coefficient-checks, FirstAbsent}
+use Rattle.network.specs.Kinds.{coefficient-checks, FirstAbsent}
 
 pub present-checked : (s : Algebra) (i : ℕ) (cs : List (Option ℤ)) → FirstAbsent s cs None → Checked (coefficient-checks s i cs) accepted
 present-checked s i [] h = tt

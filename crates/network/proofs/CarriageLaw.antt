@@ -1,14 +1,14 @@
 -- A carriage keeps the law by that of its scale and that of the network below. Assumes nothing.
-use mathlib.Core.Path.{_≡_, refl, sym, ap, subst, _∙_}
-use mathlib.Core.List.{List, [], _∷_}
-use Prim.Native.Nat.{ℕ, zero, suc, _<_, _+_}
+use mathlib.Core.Path.{_≡_, sym, ap, subst, _∙_}
+use mathlib.Core.List.{List}
+use Prim.Native.Nat.{ℕ, _<_}
 use lib.IntN.{ℤ}
 use lib.Signed.{_≤ℤ_}
 use lib.ListN.{length}
 use Rattle.std.specs.declared.option.Option.{Option}
-use Rattle.scale.specs.Algebra.{Algebra, LawfulScale, Value, product-of, quotient-of}
+use Rattle.scale.specs.Algebra.{Algebra, LawfulScale, product-of, quotient-of}
 use Rattle.scale.proofs.Everywhere.{product-of-value, quotient-of-value, residuated-of}
-use Rattle.network.specs.Lists.{at, listed, _≼_, Row}
+use Rattle.network.specs.Lists.{at, _≼_, Row}
 use Rattle.network.specs.Networks.{Meaning, LawfulNetwork}
 use Rattle.network.specs.Kinds.{coefficient-at, carriage, multiplied, divided}
 use Rattle.network.proofs.Lists.{length-listed, at-listed, listed-same, listed-row, row-at, below-at, at-below}

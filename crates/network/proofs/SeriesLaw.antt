@@ -1,16 +1,16 @@
 -- Two networks in series keep the law. Assumes nothing.
-use mathlib.Core.Path.{_≡_, refl, sym, ap, subst, _∙_}
+use mathlib.Core.Path.{_≡_, sym, subst, _∙_}
 use mathlib.Core.Logic.{⊎-elim}
 use mathlib.Core.List.{List}
 use Prim.Native.Nat.{ℕ, _<_}
 use lib.IntN.{ℤ, pos}
 use lib.Signed.{_≤ℤ_}
-use lib.ListN.{length, getD}
+use lib.ListN.{length}
 use Rattle.std.proofs.shelf.Lists.{getD-default, getD-past}
 use Rattle.std.proofs.shelf.Tests.{cases-lt}
 use Rattle.scale.specs.Algebra.{Algebra, LawfulScale, Value}
 use Rattle.scale.proofs.Everywhere.{lowest-value, highest-value}
-use Rattle.network.specs.Lists.{at, listed, _≼_, Row}
+use Rattle.network.specs.Lists.{at, _≼_, Row}
 use Rattle.network.specs.Networks.{Meaning, LawfulNetwork}
 use Rattle.network.specs.Kinds.{padded, series, chained}
 use Rattle.network.proofs.Lists.{length-listed, at-listed, listed-all, listed-row, row-at, below-at, at-below}

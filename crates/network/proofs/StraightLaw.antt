@@ -1,11 +1,11 @@
 -- A straight network keeps the law. Assumes nothing.
-use mathlib.Core.Path.{_≡_, sym, subst, _∙_}
+use mathlib.Core.Path.{_≡_, sym, subst}
 use mathlib.Core.List.{List}
-use Prim.Native.Nat.{ℕ, _<_}
+use Prim.Native.Nat.{ℕ}
 use lib.IntN.{ℤ}
 use Rattle.scale.specs.Algebra.{Algebra, LawfulScale}
 use Rattle.scale.proofs.Everywhere.{held-value, held-same}
-use Rattle.network.specs.Lists.{at, listed, _≼_, Row}
+use Rattle.network.specs.Lists.{at, _≼_, Row}
 use Rattle.network.specs.Networks.{Size, LawfulNetwork}
 use Rattle.network.specs.Kinds.{straight, handed}
 use Rattle.network.proofs.Lists.{listed-all, listed-row, row-at}

@@ -15,7 +15,7 @@ use Rattle.model.specs.declared.Bench.{Bench}
 use Rattle.model.specs.declared.State.{State}
 use Rattle.model.specs.declared.State.the-variants.{Open, Impossible}
 use Rattle.model.specs.Plans.{Hall, Model}
-use Rattle.model.specs.Sheets.{window, fresh-bench, own-sheet, fresh, alter, put-both, rewrite-at}
+use Rattle.model.specs.Sheets.{window, fresh-bench, own-sheet, fresh, alter, put-both}
 use Rattle.model.specs.Calls.{no-bench, NoBench, table-of, bench-of, change-at, in-state, ceiling-checks, floor-checks, window-value-checks, wider-checks, lower-bench, raise-bench, Changes, Lowered, Raised, Loosened}
 use Rattle.model.proofs.Steps.{sheet-change}
 use Rattle.benches.specs.Records.{renew-bench}

@@ -1,7 +1,6 @@
 -- What a run says of the plan it led to. Assumes nothing.
 use mathlib.Core.Path.{_≡_, refl, sym, _∙_}
 use Prim.Native.Nat.{ℕ, _≤_, _<_}
-use lib.ListN.{length}
 use Rattle.std.proofs.shelf.Lists.{length-map}
 use Rattle.scale.specs.Algebra.{Algebra, LawfulScale}
 use Rattle.model.specs.declared.State.{State}

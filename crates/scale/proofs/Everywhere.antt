@@ -1,18 +1,16 @@
 -- What the law of a scale gives at every coefficient. Assumes nothing.
-use mathlib.Core.Path.{_≡_, refl, sym, ap, subst, _∙_}
+use mathlib.Core.Path.{_≡_, refl, sym, subst}
 use mathlib.Core.Bool.{Bool, true, false, cond, _&&_}
 use mathlib.Core.Logic.{_↔_}
 use native.Mathlib.Omega.{arith}
 use lib.Dec.{T}
-use lib.IntN.{ℤ, pos}
+use lib.IntN.{ℤ}
 use lib.Signed.{_≤ℤ_, leZ, ltZ}
 use Rattle.std.proofs.shelf.Signed.{ints, clamps}
 use Rattle.std.specs.declared.option.Option.{Option}
 use Rattle.std.specs.declared.option.Option.the-variants.{Some, None}
+use Rattle.scale.proofs.Integers.{≤-trans}
 use Rattle.scale.specs.Algebra.{Algebra, LawfulScale, Value, Coefficient, clamped, held, of-scale, present, counted, product-of, quotient-of, InTime}
-
-≤-trans : (x y z : ℤ) → x ≤ℤ y → y ≤ℤ z → x ≤ℤ z
-≤-trans x y z a b = omega (arith, ints)
 
 pub clamped-above : (low high z : ℤ) → low ≤ℤ high → low ≤ℤ clamped low high z
 clamped-above low high z h = omega (arith, ints, clamps)

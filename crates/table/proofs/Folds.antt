@@ -7,30 +7,9 @@ use native.Mathlib.Omega.{arith}
 use lib.IntN.{ℤ}
 use lib.Signed.{_≤ℤ_, ≤ℤ-refl}
 use Rattle.std.specs.Numbers.{maxZ, minZ}
-use Rattle.std.proofs.shelf.Signed.{ints, clamps}
 use Rattle.std.proofs.shelf.Tests.{cases-eq}
+use Rattle.scale.proofs.Integers.{≤-trans, max-left, max-right, max-least, min-left, min-right, min-above}
 use Rattle.table.specs.Tables.{largest, smallest}
-
-pub ≤-trans : (x y z : ℤ) → x ≤ℤ y → y ≤ℤ z → x ≤ℤ z
-≤-trans x y z a b = omega (arith, ints)
-
-max-left : (x y : ℤ) → x ≤ℤ maxZ x y
-max-left x y = omega (arith, ints, clamps)
-
-max-right : (x y : ℤ) → y ≤ℤ maxZ x y
-max-right x y = omega (arith, ints, clamps)
-
-max-least : (x y z : ℤ) → x ≤ℤ z → y ≤ℤ z → maxZ x y ≤ℤ z
-max-least x y z a b = omega (arith, ints, clamps)
-
-min-left : (x y : ℤ) → minZ x y ≤ℤ x
-min-left x y = omega (arith, ints, clamps)
-
-min-right : (x y : ℤ) → minZ x y ≤ℤ y
-min-right x y = omega (arith, ints, clamps)
-
-min-most : (x y z : ℤ) → z ≤ℤ x → z ≤ℤ y → z ≤ℤ minZ x y
-min-most x y z a b = omega (arith, ints, clamps)
 
 module _ (d : ℤ) (f : ℕ → ℤ) where
   pub largest-over : (n : ℕ) → d ≤ℤ largest d f n
@@ -61,7 +40,7 @@ module _ (d : ℤ) (f : ℕ → ℤ) where
 
   pub smallest-most : (n : ℕ) (z : ℤ) → z ≤ℤ d → ((j : ℕ) → j < n → z ≤ℤ f j) → z ≤ℤ smallest d f n
   smallest-most zero z l h = l
-  smallest-most (suc n) z l h = min-most _ _ z (smallest-most n z l (λ j q. h j (omega arith))) (h n (omega arith))
+  smallest-most (suc n) z l h = min-above _ _ z (smallest-most n z l (λ j q. h j (omega arith))) (h n (omega arith))
 
   -- a turn of the loop over a row or a column
   pub largest-more : (n : ℕ) (top p r : ℤ) → top ≡ largest d f n → p ≡ f n → r ≡ maxZ top p → r ≡ largest d f (n + 1)

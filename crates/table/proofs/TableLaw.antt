@@ -3,18 +3,19 @@ use mathlib.Core.Path.{_≡_, refl, sym, ap, subst, _∙_}
 use mathlib.Core.Bool.{Bool, true, false, cond}
 use mathlib.Core.List.{List}
 use Prim.Native.Nat.{ℕ, _<_}
-use lib.IntN.{ℤ, pos}
+use lib.IntN.{ℤ}
 use lib.Signed.{_≤ℤ_}
 use lib.ListN.{length}
 use Rattle.std.specs.declared.option.Option.{Option}
 use Rattle.std.specs.declared.option.Option.the-variants.{Some, None}
 use Rattle.scale.specs.Algebra.{Algebra, LawfulScale, Value, present, counted, held, product-of, quotient-of}
+use Rattle.scale.proofs.Integers.{≤-trans}
 use Rattle.scale.proofs.Everywhere.{ordered, product-of-value, quotient-of-value, residuated-of}
-use Rattle.network.specs.Lists.{at, listed, _≼_, Row}
+use Rattle.network.specs.Lists.{at, _≼_, Row}
 use Rattle.network.specs.Networks.{Size, LawfulNetwork}
 use Rattle.network.proofs.Lists.{length-listed, at-listed, listed-same, listed-row, row-at, below-at, at-below}
 use Rattle.table.specs.Tables.{table, arrival, latest-start}
-use Rattle.table.proofs.Folds.{≤-trans, largest-over, largest-bounds, largest-least, smallest-under, smallest-bounds, smallest-most, largest-same, smallest-same}
+use Rattle.table.proofs.Folds.{largest-over, largest-bounds, largest-least, smallest-under, smallest-bounds, smallest-most, largest-same, smallest-same}
 
 module _ (s : Algebra) (ok : LawfulScale s) (m n : ℕ) (cell : ℕ → ℕ → Option ℤ) where
   arrival-value : (row : ℕ → Option ℤ) (xs : List ℤ) → Value s (arrival s n row xs)

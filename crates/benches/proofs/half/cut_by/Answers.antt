@@ -1,7 +1,7 @@
-use mathlib.Core.Path.{_≡_, _∙_}
+use mathlib.Core.Path.{_∙_}
 use native.Mathlib.Omega.{arith}
 use lib.IntN.{pos}
-use lib.ListN.{length, replicate}
+use lib.ListN.{replicate}
 use Rattle.std.proofs.shelf.Lists.{length-map}
 use Rattle.model.specs.declared.Bench.{Bench}
 use Rattle.benches.specs.Records.{records}

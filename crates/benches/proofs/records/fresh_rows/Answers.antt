@@ -1,4 +1,4 @@
-use mathlib.Core.Path.{_≡_, sym, ap, ap₂, subst, _∙_}
+use mathlib.Core.Path.{_≡_, sym, ap, ap₂, _∙_}
 use mathlib.Core.List.{List, [], _∷_, _++_, map}
 use Prim.Native.Nat.{ℕ, _<_}
 use native.Mathlib.Omega.{arith}
@@ -6,7 +6,6 @@ use borrow.Author.Needs.{needs}
 use lib.ListN.{length, getD, take}
 use Rattle.std.proofs.shelf.Lists.{map-more, take-all}
 use Rattle.model.specs.declared.Bench.{Bench}
-use Rattle.model.specs.declared.Window.{Window}
 use Rattle.model.specs.Sheets.{fresh-bench}
 use Rattle.benches.proofs.WindowChecks.{no-window}
 use Rattle.benches.proofs.Parts.{take-written}

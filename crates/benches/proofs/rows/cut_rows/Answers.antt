@@ -1,10 +1,10 @@
-use mathlib.Core.Path.{_≡_, ap, _∙_, sym, subst}
+use mathlib.Core.Path.{_≡_, ap, _∙_}
 use mathlib.Core.Bool.{true, false}
 use native.Mathlib.Omega.{arith}
 use lib.IntN.{ℤ, pos}
 use lib.Signed.{ltZ}
-use lib.ListN.{getD, set, length, take}
-use mir.Val.{toZ, ofZ, SFits}
+use lib.ListN.{getD, set, length}
+use mir.Val.{SFits}
 use mir.Syntax.{w32}
 use borrow.Author.Needs.{needs}
 use Rattle.std.proofs.shelf.Signed.{toZ-ofZ}

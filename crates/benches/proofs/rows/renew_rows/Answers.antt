@@ -1,5 +1,5 @@
 use mathlib.Core.Path.{_≡_}
-use lib.ListN.{getD, length}
+use lib.ListN.{getD}
 use borrow.Author.Needs.{needs}
 use Rattle.benches.specs.Records.{renew-bench}
 use Rattle.model.specs.Calls.{no-bench}

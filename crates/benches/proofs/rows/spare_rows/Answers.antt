@@ -1,11 +1,7 @@
-use mathlib.Core.Path.{_≡_, subst, sym, ap, _∙_}
+use mathlib.Core.Path.{_≡_, subst, _∙_}
 use native.Mathlib.Omega.{arith}
-use Prim.Native.Nat.{_*_, _+_}
-use lib.IntN.{ℤ, pos, negℤ, _+ℤ_, _-ℤ_}
-use lib.Signed.{_≤ℤ_}
-use lib.ListN.{getD, length, drop}
-use mir.Val.{toZ, ofZ}
-use mir.Syntax.{w64}
+use lib.IntN.{ℤ, _+ℤ_, _-ℤ_}
+use lib.ListN.{getD, drop}
 use borrow.Author.Needs.{needs}
 use Rattle.std.proofs.shelf.Signed.{ints}
 use Rattle.model.specs.Plans.{spare}

@@ -1,8 +1,8 @@
-use mathlib.Core.Path.{_≡_, sym, _∙_, ap}
+use mathlib.Core.Path.{_≡_, sym, _∙_}
 use native.Mathlib.Omega.{arith}
 use Prim.Native.Nat.{_<_}
-use lib.IntN.{ℤ, pos}
-use lib.ListN.{getD, set, length}
+use lib.IntN.{pos}
+use lib.ListN.{getD, length}
 use mir.Val.{toZ, ofZ, SFits}
 use mir.Syntax.{w32}
 use borrow.Author.Needs.{needs}

@@ -1,11 +1,10 @@
 use mathlib.Core.Path.{_≡_, refl, sym, ap, subst, _∙_}
 use mathlib.Core.List.{List, [], _∷_, _++_, map}
-use Prim.Native.Nat.{ℕ, _+_, _≤_, _<_}
 use native.Mathlib.Omega.{arith}
 use borrow.Author.Needs.{needs}
 use lib.ListN.{length}
-use Rattle.std.specs.Of.Vec.{vec-items, vec-len, vec-cap}
-use Rattle.std.specs.Of.VecDeque.{deque-items, deque-len}
+use Rattle.std.specs.Of.Vec.{vec-items}
+use Rattle.std.specs.Of.VecDeque.{deque-items}
 use Rattle.std.proofs.shelf.Lists.{nil-from-length, map-append}
 use Rattle.model.specs.Runs.{Call, Reply}
 use Rattle.plan.specs.Models.{model}

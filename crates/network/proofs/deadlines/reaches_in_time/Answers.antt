@@ -1,11 +1,11 @@
-use mathlib.Core.Path.{_≡_, sym, subst}
+use mathlib.Core.Path.{_≡_, subst}
 use mathlib.Core.Logic.{_↔_}
 use mathlib.Core.List.{List}
 use borrow.Author.Needs.{needs}
 use lib.Dec.{T}
 use lib.IntN.{ℤ}
 use lib.ListN.{length}
-use Rattle.network.specs.Lists.{_≼_, Row}
+use Rattle.network.specs.Lists.{_≼_}
 use Rattle.network.proofs.deadlines.reaches_in_time.Needs as need
 
 pub returns : need.returns

@@ -1,9 +1,4 @@
-use mathlib.Core.Path.{_≡_, subst}
-use lib.IntN.{ℤ}
-use mir.Syntax.{w32}
-use mir.Val.{toZ, ofZ}
 use Rattle.std.proofs.shelf.Signed.{toZ-ofZ}
-use Rattle.network.specs.Checks.{accepted, refused, Checked}
 use Rattle.network.specs.Refusals.{number}
 use Rattle.network.proofs.InOrder.{more-checks, early-fault}
 use Rattle.model.specs.Calls.{window-value-checks, wider-checks}

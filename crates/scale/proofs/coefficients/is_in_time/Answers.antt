@@ -1,4 +1,4 @@
-use mathlib.Core.Path.{_≡_, sym, subst, ap₂, _∙_}
+use mathlib.Core.Path.{sym, subst, ap₂, _∙_}
 use borrow.Author.Needs.{needs}
 use lib.Signed.{leZ}
 use mir.Syntax.{w32}

@@ -1,8 +1,4 @@
-use mathlib.Core.Path.{_≡_}
-use Prim.Native.Nat.{_≤_}
 use native.Mathlib.Omega.{arith}
-use borrow.Author.Needs.{needs}
-use lib.ListN.{length}
 use Rattle.benches.proofs.Parts.{count-taken}
 use Rattle.benches.proofs.table.Benches.count.Needs as need
 

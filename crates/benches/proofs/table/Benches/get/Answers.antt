@@ -1,8 +1,5 @@
-use mathlib.Core.Path.{_≡_, sym}
-use Prim.Native.Nat.{_<_, _≤_}
+use mathlib.Core.Path.{sym}
 use native.Mathlib.Omega.{arith}
-use borrow.Author.Needs.{needs}
-use lib.ListN.{length}
 use Rattle.std.proofs.shelf.Lists.{getD-take}
 use Rattle.model.specs.Calls.{no-bench}
 use Rattle.benches.proofs.Parts.{count-taken}

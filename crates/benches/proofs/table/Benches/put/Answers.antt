@@ -1,7 +1,5 @@
-use mathlib.Core.Path.{_≡_, sym}
+use mathlib.Core.Path.{sym}
 use native.Mathlib.Omega.{arith}
-use borrow.Author.Needs.{needs}
-use lib.ListN.{length}
 use Rattle.benches.specs.Records.{records}
 use Rattle.benches.proofs.Parts.{count-taken, take-set, set-past}
 use Rattle.benches.proofs.table.Benches.put.Needs as need

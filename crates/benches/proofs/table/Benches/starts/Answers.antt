@@ -1,7 +1,5 @@
-use mathlib.Core.Path.{_≡_, refl}
+use mathlib.Core.Path.{refl}
 use native.Mathlib.Omega.{arith}
-use borrow.Author.Needs.{needs}
-use lib.ListN.{length}
 use Rattle.benches.proofs.Parts.{count-taken}
 use Rattle.benches.proofs.table.Benches.starts.Needs as need
 

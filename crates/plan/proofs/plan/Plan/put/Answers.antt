@@ -1,6 +1,5 @@
 use Rattle.benches.specs.Records.{records}
-use Rattle.plan.specs.Models.{model}
-use Rattle.plan.proofs.Changes.{put-left, put-right, put-none}
+use Rattle.plan.proofs.Changes.{put-left, put-right}
 use Rattle.plan.proofs.plan.Plan.put.Needs as need
 
 pub returns-in-0 : need.returns-in-0

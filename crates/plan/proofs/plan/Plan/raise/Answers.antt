@@ -1,4 +1,4 @@
-use mathlib.Core.Path.{_≡_, subst}
+use mathlib.Core.Path.{subst}
 use lib.IntN.{ℤ}
 use mir.Syntax.{w32}
 use Rattle.std.proofs.shelf.Results.{err-from-errBy}
