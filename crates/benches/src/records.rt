@@ -13,6 +13,7 @@ ghost use Rattle.benches.specs.Answers.{StartsWritten};
 use crate::rows::adopt_rows;
 use crate::rows::any_fallen;
 use crate::rows::renew_rows;
+use crate::rows::row_at;
 use crate::rows::spare_rows;
 use crate::rows::write_starts;
 use crate::table::Benches;
@@ -33,10 +34,7 @@ impl Benches {
     pub fn get(&self, bench: usize) -> Option<Bench>
         ensures { λ r. ⌜ Got (records (now (self .entry))) bench r ⌝ }
     {
-        if bench >= self.count {
-            return None;
-        }
-        Some(self.rows[bench])
+        row_at(&self.rows[0..self.count], bench)
     }
 
     // Puts another record in the place of a bench's, where there is such a bench.

@@ -7,8 +7,19 @@ ghost use lib.IntN.{pos, negℤ, _-ℤ_};
 ghost use lib.Signed.{ltZ, _≤ℤ_};
 ghost use Rattle.model.specs.Plans.{starts, cut, fallen, spare, same-list};
 ghost use Rattle.model.specs.Calls.{adopt-bench};
-ghost use Rattle.benches.specs.Records.{renew-bench};
+ghost use Rattle.benches.specs.Records.{renew-bench, Got};
 use model::Bench;
+
+// The record at a place.
+pub(crate) fn row_at(rows: &[Bench], bench: usize) -> Option<Bench>
+    ensures { λ r. ⌜ Got (now (rows .entry)) bench r ⌝ }
+{
+    if bench < rows.len() {
+        Some(rows[bench])
+    } else {
+        None
+    }
+}
 
 // Writes the starts.
 pub(crate) fn write_starts(rows: &[Bench], out: &mut [i32])

@@ -93,12 +93,12 @@ raise-accepted σ p p′ s i v b row t l e k r c u = (
   changed p p′ s i b row (raise-bench v) t (cond (ltZ (bench-of p s i .start) v) Impossible (p .state)) e r c (u ∙ ap (λ (z : Bench). cond (ltZ (z .start) v) Impossible (p .state)) e),
 )
 
-pub loosen-accepted : (σ : Algebra) (p p′ q : Model) (s i : ℕ) (f c : ℤ) (b row : Bench) → i < length (table-of p s) → b ≡ bench-of p s i →
-    Checked (window-value-checks σ f c ++ wider-checks b f c) accepted → window row ≡ record { floor = f; ceiling = c } → p′ ≡ change-at p s i (λ _. row) → q ≡ fresh (own-sheet p′) →
+pub loosen-accepted : (σ : Algebra) (p q : Model) (s i : ℕ) (f c : ℤ) (b row : Bench) → i < length (table-of p s) → b ≡ bench-of p s i →
+    Checked (window-value-checks σ f c ++ wider-checks b f c) accepted → window row ≡ record { floor = f; ceiling = c } → q ≡ fresh (own-sheet (change-at p s i (λ _. row))) →
     Loosened σ p s i f c accepted q
-loosen-accepted σ p p′ q s i f c b row l e k r put new = (
+loosen-accepted σ p q s i f c b row l e k r new = (
   bench-checked p s i (λ z. window-value-checks σ f c ++ wider-checks z f c) b l e k,
-  new ∙ ap (λ (z : Model). fresh (own-sheet z)) put ∙ ap fresh (sheet-change p s i (λ _. row) (put-both f c) (λ b. r)),
+  new ∙ ap fresh (sheet-change p s i (λ _. row) (put-both f c) (λ b. r)),
 )
 
 -- ---- a fresh start

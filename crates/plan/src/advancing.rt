@@ -1,5 +1,6 @@
 // Granted rounds.
 ghost use mathlib.Core.Path.{_≡_};
+ghost use Prim.Native.Nat.{_+_, _<_};
 ghost use Rattle.std.specs.Orderings.{When};
 ghost use Rattle.model.specs.Calls.{Advanced};
 ghost use Rattle.plan.specs.Models.{model, Fitting};
@@ -23,7 +24,7 @@ impl<L: Network, R: Network<Over = L::Over>> Plan<L, R> {
                 State::Open => self.round(),
                 decided => break (decided, made),
             }
-            made += 1;
+            made = one_more(made);
         }
     }
 }
@@ -33,4 +34,11 @@ fn is_used(made: u64, grant: u64) -> bool
     ensures { λ r. ⌜ When r (made ≡ grant) (made ≡ grant → ⊥) ⌝ }
 {
     made == grant
+}
+
+fn one_more(made: u64) -> u64
+    requires { ⌜ made < 18446744073709551615 ⌝ }
+    ensures { λ r. ⌜ r ≡ made + 1 ⌝ }
+{
+    made + 1
 }

@@ -4,9 +4,9 @@ ghost use mathlib.Core.Bool.{cond};
 ghost use mathlib.Core.List.{_++_};
 ghost use lib.Signed.{ltZ};
 ghost use Rattle.network.specs.Checks.{Checked};
-ghost use Rattle.model.specs.Calls.{lower-bench, raise-bench, Lowered, Raised, Loosened, window-value-checks, wider-checks};
+ghost use Rattle.model.specs.Calls.{lower-bench, raise-bench, change-at, Lowered, Raised, Loosened, window-value-checks, wider-checks};
 ghost use Rattle.model.specs.declared.State.the-variants.{Open, Impossible};
-ghost use Rattle.model.specs.Sheets.{window};
+ghost use Rattle.model.specs.Sheets.{window, own-sheet, fresh};
 ghost use Rattle.benches.specs.Answers.{answer};
 ghost use Rattle.plan.specs.Models.{model};
 use crate::plan::Plan;
@@ -66,9 +66,16 @@ impl<L: Network, R: Network<Over = L::Over>> Plan<L, R> {
         };
         check_loosen::<L::Over>(b, floor, ceiling)?;
         let row = widened(floor, ceiling);
+        self.put_and_restart(side, bench, row);
+        Ok(())
+    }
+
+    // Puts another record in the place of a bench's, and makes a fresh start.
+    fn put_and_restart(&mut self, side: usize, bench: usize, row: Bench)
+        ensures { λ _. ⌜ model (L·Network .meaning) (R·Network .meaning) (now (self .exit)) ≡ fresh (own-sheet (change-at (model (L·Network .meaning) (R·Network .meaning) (now (self .entry))) side bench (λ _. row))) ⌝ }
+    {
         self.put(side, bench, row);
         self.restart();
-        Ok(())
     }
 }
 

@@ -1,5 +1,5 @@
-use mathlib.Core.Path.{_≡_, sym, subst}
-use Prim.Native.Nat.{suc}
+use mathlib.Core.Path.{_≡_, sym, subst, _∙_}
+use Prim.Native.Nat.{ℕ, suc}
 use native.Mathlib.Numerals.{add-one}
 use native.Mathlib.Omega.{arith}
 use borrow.Author.Needs.{needs}
@@ -19,7 +19,11 @@ rounds-again g c =
           let r = c .rounds .inv .1 f in
           let e = c .round .ensures (r .1) in
           let more : Rounds (suc (c .rounds .made)) p (round q) = rounds-more (c .rounds .made) p q (r .0) (c .in-Open .is) in
-          (rw (add-one (c .rounds .made)) (subst (λ (z : Model). Rounds (suc (c .rounds .made)) p z) (sym e) more), subst (λ (z : Model). Fitting z) (sym e) (fitting-round q (r .1))),
+          let count : suc (c .rounds .made) ≡ c .one-more-made .result = sym (c .one-more-made .ensures ∙ add-one (c .rounds .made)) in (
+            subst (λ (k : ℕ). Rounds k p (model (g .L·Network .meaning) (g .R·Network .meaning) (c .round .last .self))) count
+                (subst (λ (z : Model). Rounds (suc (c .rounds .made)) p z) (sym e) more),
+            subst (λ (z : Model). Fitting z) (sym e) (fitting-round q (r .1)),
+          ),
     )
 
 pub returns-then-is-used : need.returns-then-is-used

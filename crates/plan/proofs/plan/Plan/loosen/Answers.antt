@@ -27,11 +27,10 @@ pub returns : need.returns
 returns g c =
     let σ = g .Over·Scale .algebra in
     let p = model (g .L·Network .meaning) (g .R·Network .meaning) (c .args .self .now) in
-    let p′ = model (g .L·Network .meaning) (g .R·Network .meaning) (c .put .last .self) in
-    let q = model (g .L·Network .meaning) (g .R·Network .meaning) (c .restart .last .self) in
+    let q = model (g .L·Network .meaning) (g .R·Network .meaning) (c .put-and-restart .last .self) in
     let k = c .in-Some .ensures tt in
     let ff = c .fits .floor in
     let tf = c .fits .ceiling in
     let h = simp toZ-ofZ at (c .in-Continue-check-loosen .ensures tt) in
     let r = simp toZ-ofZ at (c .widened-row .ensures) in
-    loosen-accepted σ p p′ q (c .args .side) (c .args .bench) (c .args .floor) (c .args .ceiling) (c .in-Some .b) (c .widened-row .result) (k .0) (k .1) h r (c .put .ensures) (c .restart .ensures)
+    loosen-accepted σ p q (c .args .side) (c .args .bench) (c .args .floor) (c .args .ceiling) (c .in-Some .b) (c .widened-row .result) (k .0) (k .1) h r (c .put-and-restart .ensures)
