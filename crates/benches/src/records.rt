@@ -15,6 +15,7 @@ use crate::rows::any_fallen;
 use crate::rows::renew_rows;
 use crate::rows::row_at;
 use crate::rows::spare_rows;
+use crate::rows::write_row;
 use crate::rows::write_starts;
 use crate::table::Benches;
 use model::Bench;
@@ -42,7 +43,7 @@ impl Benches {
         ensures { λ _. ⌜ records (now (self .exit)) ≡ set (records (now (self .entry))) bench row ⌝ }
     {
         if bench < self.count {
-            self.rows[bench] = row;
+            write_row(&mut self.rows, bench, row);
         }
     }
 

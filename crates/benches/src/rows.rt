@@ -1,8 +1,8 @@
 // Loops over bench records.
 ghost use mathlib.Core.Path.{_≡_};
 ghost use mathlib.Core.List.{map};
-ghost use Prim.Native.Nat.{_≤_};
-ghost use lib.ListN.{length};
+ghost use Prim.Native.Nat.{_≤_, _<_};
+ghost use lib.ListN.{length, set};
 ghost use lib.IntN.{pos, negℤ, _-ℤ_};
 ghost use lib.Signed.{ltZ, _≤ℤ_};
 ghost use Rattle.model.specs.Plans.{starts, cut, fallen, spare, same-list};
@@ -19,6 +19,14 @@ pub(crate) fn row_at(rows: &[Bench], bench: usize) -> Option<Bench>
     } else {
         None
     }
+}
+
+// Writes a record at a place.
+pub(crate) fn write_row(rows: &mut [Bench], bench: usize, row: Bench)
+    requires { ⌜ bench < length (now rows) ⌝ }
+    ensures { λ _. ⌜ now (rows .exit) ≡ set (now (rows .entry)) bench row ⌝ }
+{
+    rows[bench] = row;
 }
 
 // Writes the starts.
