@@ -1,4 +1,6 @@
 // One side's benches: their records, the checks on their windows, and half a round.
+#![tactic(auto)]
+
 mod checks;
 mod half;
 mod records;

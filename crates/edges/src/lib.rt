@@ -1,4 +1,6 @@
 // Tests of the scales and the networks at the edges of their rules.
+#![tactic(auto)]
+
 #[cfg(test)]
 mod grades;
 #[cfg(test)]

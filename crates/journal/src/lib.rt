@@ -1,4 +1,6 @@
 // Whole lists of calls on a plan.
+#![tactic(auto)]
+
 mod calls;
 mod carrying;
 mod entries;

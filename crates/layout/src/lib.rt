@@ -1,4 +1,6 @@
 // Layouts of files: fields one after another, and a cursor that reads them.
+#![tactic(auto)]
+
 mod bounds;
 mod bytes;
 mod cursor;

@@ -1,4 +1,6 @@
 // What a plan is, and the law over every run of calls on it.
+#![tactic(auto)]
+
 ghost use Rattle.model.specs.Runs.{Law};
 ghost use Rattle.model.specs.Laws.{SolvingAgain};
 

@@ -1,4 +1,6 @@
 // Networks of benches and stations over a scale.
+#![tactic(auto)]
+
 mod carriage;
 mod carriages;
 mod deadlines;

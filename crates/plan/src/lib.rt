@@ -1,4 +1,6 @@
 // A plan over two networks of one scale, and the calls on it.
+#![tactic(auto)]
+
 mod advancing;
 mod exchanged;
 mod exchanges;

@@ -1,4 +1,6 @@
 // Tests of the calls on a plan: worked plans, and every refusal.
+#![tactic(auto)]
+
 #[cfg(test)]
 mod halls;
 #[cfg(test)]

@@ -1,4 +1,6 @@
 // Plan files of edition 1.
+#![tactic(auto)]
+
 mod asked;
 mod asking;
 mod body;

@@ -1,4 +1,6 @@
 // Scales: the numbers in which starts and arrivals are given, with their product and quotient.
+#![tactic(auto)]
+
 mod coefficients;
 mod grades;
 mod minutes;

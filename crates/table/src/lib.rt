@@ -1,4 +1,6 @@
 // Tables of coefficients as networks.
+#![tactic(auto)]
+
 mod making;
 mod rows;
 mod table;

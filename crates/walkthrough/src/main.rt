@@ -1,4 +1,6 @@
 // A hall's task and a plan's story from beginning to end, with a note of each step.
+#![tactic(auto)]
+
 mod asked;
 mod halls;
 mod steps;

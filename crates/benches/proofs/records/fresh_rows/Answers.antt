@@ -11,10 +11,10 @@ loop-i-preserved c =
     let ws = c.args.windows.now in
     let i = c.loop-i.i in
     let rows = c.loop-i.rows in
-    let r : c.fresh-row-row.result ≡ fresh_bench (get_or ws i no_window) = search rules in
+    let r : c.fresh_row-row.result ≡ fresh_bench (get_or ws i no_window) = search rules in
     let l : i < length rows = omega (arith, c.loop-i.invariant.0) in (
       search rules,
-      take_written i rows c.fresh-row-row.result l
+      take_written i rows c.fresh_row-row.result l
           ∙ ap₂ (λ (x : List Bench) (b : Bench). x ++ (b ∷ [])) c.loop-i.invariant.1 r
           ∙ sym (map_more fresh_bench ws i no_window c.loop-i-test.true),
     )

@@ -4,8 +4,8 @@ use Rattle.model.specs.Calls.{no_bench}
 use Rattle.benches.proofs.Turns.{fallen_here, fallen_next, fallen_all}
 use Rattle.benches.proofs.rows.any_fallen.Goals as goal
 
-pub returns-then-is-below-floor : goal.returns-then-is-below-floor
-returns-then-is-below-floor c =
+pub returns-then-is_below_floor : goal.returns-then-is_below_floor
+returns-then-is_below_floor c =
     let b = get_or c.args.rows.now c.loop-b.b-index no_bench in
     let t : lt_z b.start b.floor ≡ true = search rules in
     fallen_here c.args.rows.now c.loop-b.b-index c.loop-b-test.true t c.loop-b.invariant

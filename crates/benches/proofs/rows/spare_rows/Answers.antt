@@ -11,7 +11,7 @@ loop-b-preserved c =
     let i = c.loop-b.b-index in
     let b = get_or rows i no_bench in
     let sum = c.loop-b.sum in
-    let r : c.room-of-room.result ≡ b.start -ℤ b.floor = search rules in
+    let r : c.room_of-room.result ≡ b.start -ℤ b.floor = search rules in
     let inv : sum +ℤ spare (drop i rows) ≡ spare rows = subst (λ (z : ℤ). z +ℤ spare (drop i rows) ≡ spare rows) c.loop-b.sum-is c.loop-b.invariant.0 in
     let all = spare_more rows i sum c.loop-b-test.true inv in (
       omega (arith, ints),

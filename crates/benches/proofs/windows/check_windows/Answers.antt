@@ -4,17 +4,17 @@ use Rattle.benches.specs.Answers.{told}
 use Rattle.benches.proofs.WindowChecks.{window_next, window_fault, window_last}
 use Rattle.benches.proofs.windows.check_windows.Goals as goal
 
-pub returns-in-err-check-window : goal.returns-in-err-check-window
-returns-in-err-check-window g c =
-    let e = err_from_is_err_and c.from-residual.result c.from-residual.ensures.1 in
-    let u = told c.in-err-check-window.field-0.0 in
+pub returns-in_err-check_window : goal.returns-in_err-check_window
+returns-in_err-check_window g c =
+    let e = err_from_is_err_and c.from_residual.result c.from_residual.ensures.1 in
+    let u = told c.in_err-check_window.field-0.0 in
     rw (e.1, e.2) (c.loop-i.invariant (refused u)
-    (window_fault g.S.Scale.algebra c.args.side c.loop-i.i c.args.windows.now u c.loop-i-test.true c.in-err-check-window.ensures))
+    (window_fault g.S.Scale.algebra c.args.side c.loop-i.i c.args.windows.now u c.loop-i-test.true c.in_err-check_window.ensures))
 
 pub loop-i-preserved : goal.loop-i-preserved
 loop-i-preserved g c a h =
     c.loop-i.invariant a
-    (window_next g.S.Scale.algebra c.args.side c.loop-i.i c.args.windows.now a c.loop-i-test.true c.in-ok-check-window.ensures h)
+    (window_next g.S.Scale.algebra c.args.side c.loop-i.i c.args.windows.now a c.loop-i-test.true c.in_ok-check_window.ensures h)
 
 pub returns : goal.returns
 returns g c =

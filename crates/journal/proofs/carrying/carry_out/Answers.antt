@@ -12,7 +12,7 @@ use Rattle.journal.proofs.carrying.carry_out.Goals as goal
 
 pub returns-in-Lower : goal.returns-in-Lower
 returns-in-Lower g c =
-    let σ = g.Over.Scale.algebra in
+    let σ = g.L.Over.Scale.algebra in
     let a = g.L.Network.meaning in
     let b = g.R.Network.meaning in
     let p = model a b c.args.plan.now in
@@ -27,7 +27,7 @@ returns-in-Lower g c =
 
 pub returns-in-Raise : goal.returns-in-Raise
 returns-in-Raise g c =
-    let σ = g.Over.Scale.algebra in
+    let σ = g.L.Over.Scale.algebra in
     let a = g.L.Network.meaning in
     let b = g.R.Network.meaning in
     let p = model a b c.args.plan.now in
@@ -42,7 +42,7 @@ returns-in-Raise g c =
 
 pub returns-in-Loosen : goal.returns-in-Loosen
 returns-in-Loosen g c =
-    let σ = g.Over.Scale.algebra in
+    let σ = g.L.Over.Scale.algebra in
     let a = g.L.Network.meaning in
     let b = g.R.Network.meaning in
     let p = model a b c.args.plan.now in
@@ -62,33 +62,33 @@ returns-in-Loosen g c =
 
 pub returns-in-ExchangeLeft : goal.returns-in-ExchangeLeft
 returns-in-ExchangeLeft g c =
-    let σ = g.Over.Scale.algebra in
+    let σ = g.L.Over.Scale.algebra in
     let a = g.L.Network.meaning in
     let b = g.R.Network.meaning in
     let p = model a b c.args.plan.now in
-    let q = model a b c.exchange-left.new.self in
+    let q = model a b c.exchange_left.new.self in
     record {
-      steps = stepped σ p q a b c.args.call _ (reply_of c.left-back.result) c.in-ExchangeLeft.is (g.met.L.Network.lawful c.in-ExchangeLeft.network)
-          (exchange_answer c.exchange-left.result, c.exchange-left.ensures.call, left_told c.left-back.result c.exchange-left.result c.left-back.ensures);
-      back = left_back c.args.plan.now c.args.call c.in-ExchangeLeft.network c.left-back.result c.exchange-left.result c.in-ExchangeLeft.is c.left-back.ensures c.exchange-left.ensures.back;
+      steps = stepped σ p q a b c.args.call _ (reply_of c.left_back.result) c.in-ExchangeLeft.is (g.met.L.Network.lawful c.in-ExchangeLeft.network)
+          (exchange_answer c.exchange_left.result, c.exchange_left.ensures.call, left_told c.left_back.result c.exchange_left.result c.left_back.ensures);
+      back = left_back c.args.plan.now c.args.call c.in-ExchangeLeft.network c.left_back.result c.exchange_left.result c.in-ExchangeLeft.is c.left_back.ensures c.exchange_left.ensures.back;
     }
 
 pub returns-in-ExchangeRight : goal.returns-in-ExchangeRight
 returns-in-ExchangeRight g c =
-    let σ = g.Over.Scale.algebra in
+    let σ = g.L.Over.Scale.algebra in
     let a = g.L.Network.meaning in
     let b = g.R.Network.meaning in
     let p = model a b c.args.plan.now in
-    let q = model a b c.exchange-right.new.self in
+    let q = model a b c.exchange_right.new.self in
     record {
       steps = stepped σ p q a b c.args.call _ (reply_of c.right_back.result) c.in-ExchangeRight.is (g.met.R.Network.lawful c.in-ExchangeRight.network)
-          (exchange_answer c.exchange-right.result, c.exchange-right.ensures.call, right_told c.right_back.result c.exchange-right.result c.right_back.ensures);
-      back = right_back c.args.plan.now c.args.call c.in-ExchangeRight.network c.right_back.result c.exchange-right.result c.in-ExchangeRight.is c.right_back.ensures c.exchange-right.ensures.back;
+          (exchange_answer c.exchange_right.result, c.exchange_right.ensures.call, right_told c.right_back.result c.exchange_right.result c.right_back.ensures);
+      back = right_back c.args.plan.now c.args.call c.in-ExchangeRight.network c.right_back.result c.exchange_right.result c.in-ExchangeRight.is c.right_back.ensures c.exchange_right.ensures.back;
     }
 
 pub returns-in-Adopt : goal.returns-in-Adopt
 returns-in-Adopt g c =
-    let σ = g.Over.Scale.algebra in
+    let σ = g.L.Over.Scale.algebra in
     let a = g.L.Network.meaning in
     let b = g.R.Network.meaning in
     let p = model a b c.args.plan.now in
@@ -100,7 +100,7 @@ returns-in-Adopt g c =
 
 pub returns-in-ReadState : goal.returns-in-ReadState
 returns-in-ReadState g c =
-    let σ = g.Over.Scale.algebra in
+    let σ = g.L.Over.Scale.algebra in
     let a = g.L.Network.meaning in
     let b = g.R.Network.meaning in
     let p = model a b c.args.plan.now in
@@ -109,7 +109,7 @@ returns-in-ReadState g c =
 
 pub returns-in-ReadSlack : goal.returns-in-ReadSlack
 returns-in-ReadSlack g c =
-    let σ = g.Over.Scale.algebra in
+    let σ = g.L.Over.Scale.algebra in
     let a = g.L.Network.meaning in
     let b = g.R.Network.meaning in
     let p = model a b c.args.plan.now in
@@ -119,24 +119,24 @@ returns-in-ReadSlack g c =
 
 pub returns-in-ReadWindow : goal.returns-in-ReadWindow
 returns-in-ReadWindow g c =
-    let σ = g.Over.Scale.algebra in
+    let σ = g.L.Over.Scale.algebra in
     let a = g.L.Network.meaning in
     let b = g.R.Network.meaning in
     let p = model a b c.args.plan.now in
     let q = model a b c.args.plan.now in
     record {
-      steps = stepped σ p q a b c.args.call _ (reply_of c.window-reply.result) c.in-ReadWindow.is tt (window_read p c.in-ReadWindow.side c.in-ReadWindow.bench c.window-reply.result c.window.result c.window-reply.ensures c.window.ensures, refl);
-      back = told_back c.args.plan.now c.args.call WindowIs c.window-reply.result c.window.result c.window-reply.ensures (λ _. tt);
+      steps = stepped σ p q a b c.args.call _ (reply_of c.window_reply.result) c.in-ReadWindow.is tt (window_read p c.in-ReadWindow.side c.in-ReadWindow.bench c.window_reply.result c.window.result c.window_reply.ensures c.window.ensures, refl);
+      back = told_back c.args.plan.now c.args.call WindowIs c.window_reply.result c.window.result c.window_reply.ensures (λ _. tt);
     }
 
 pub returns-in-ReadStarts : goal.returns-in-ReadStarts
 returns-in-ReadStarts g c =
-    let σ = g.Over.Scale.algebra in
+    let σ = g.L.Over.Scale.algebra in
     let a = g.L.Network.meaning in
     let b = g.R.Network.meaning in
     let p = model a b c.args.plan.now in
     let q = model a b c.args.plan.now in
     record {
-      steps = stepped σ p q a b c.args.call _ (reply_of c.starts-reply.result) c.in-ReadStarts.is tt (starts_read p c.in-ReadStarts.lefts c.in-ReadStarts.rights c.starts-reply.result c.read-starts.result c.starts-reply.ensures c.read-starts.ensures, refl);
-      back = told_back c.args.plan.now c.args.call StartsAre c.starts-reply.result c.read-starts.result c.starts-reply.ensures (λ _. tt);
+      steps = stepped σ p q a b c.args.call _ (reply_of c.starts_reply.result) c.in-ReadStarts.is tt (starts_read p c.in-ReadStarts.lefts c.in-ReadStarts.rights c.starts_reply.result c.read_starts.result c.starts_reply.ensures c.read_starts.ensures, refl);
+      back = told_back c.args.plan.now c.args.call StartsAre c.starts_reply.result c.read_starts.result c.starts_reply.ensures (λ _. tt);
     }

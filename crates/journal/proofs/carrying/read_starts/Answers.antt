@@ -8,9 +8,9 @@ use Rattle.journal.proofs.carrying.read_starts.Goals as goal
 pub returns : goal.returns
 returns g c =
     let p = model g.L.Network.meaning g.R.Network.meaning c.args.plan.now in
-    let m = c.args.left-count in
-    let n = c.args.right-count in
-    let s = c.in-ok-starts.ensures in
+    let m = c.args.left_count in
+    let n = c.args.right_count in
+    let s = c.in_ok-starts.ensures in
     let room = replicate 32 (pos 0) in
     let mm : m ≤ 32 = omega arith in
     let nn : n ≤ 32 = omega arith in

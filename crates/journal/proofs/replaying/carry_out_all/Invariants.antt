@@ -11,7 +11,7 @@ invariant-loop-call g l =
     let b = g.R.Network.meaning in
     (done : List Call)
     × (map (call_of a b) (deque_items l.initial.left) ≡ done ++ map (call_of a b) (deque_items l.left))
-    × Replayed g.Over.Scale.algebra (model a b l.initial.plan) done (replies_of l.replies) (model a b l.plan)
+    × Replayed g.L.Over.Scale.algebra (model a b l.initial.plan) done (replies_of l.replies) (model a b l.plan)
     × (vec_len l.replies + deque_len l.left ≤ vec_capacity l.replies)
 
 abbrev pub decreases-loop-call : goal.decreases-loop-call

@@ -14,11 +14,11 @@ returns-in-Ok g c =
     let j = c.args.journal in
     let begun = c.in-Ok.begun in
     let start = c.in-Ok.ensures in
-    let replies = c.carry-out-all-replies.result in
-    let q = model a b c.carry-out-all-replies.new.plan in
-    let re = subst (λ (z : Journal _ _). Replayed g.Over.Scale.algebra (model a b c.in-Ok.founded) (calls_of a b z) (replies_of replies) q) start.1 c.carry-out-all-replies.ensures in (
+    let replies = c.carry_out_all-replies.result in
+    let q = model a b c.carry_out_all-replies.new.plan in
+    let re = subst (λ (z : Journal _ _). Replayed g.L.Over.Scale.algebra (model a b c.in-Ok.founded) (calls_of a b z) (replies_of replies) q) start.1 c.carry_out_all-replies.ensures in (
       sym (length-map (vec_items replies) reply_of) ∙ re.each ∙ length-map (deque_items j.calls) (call_of a b),
-      replayed g.Over.Scale.algebra g.met.Over.Scale.lawful (a c.args.left) (b c.args.right) c.args.lefts.now c.args.rights.now
+      replayed g.L.Over.Scale.algebra g.met.L.Over.Scale.lawful (a c.args.left) (b c.args.right) c.args.lefts.now c.args.rights.now
           (model a b c.in-Ok.founded) q (calls_of a b j) (replies_of replies)
           (g.met.L.Network.lawful c.args.left) (g.met.R.Network.lawful c.args.right) start.0 re,
     )

@@ -4,8 +4,8 @@ use Rattle.network.specs.Lists.{at}
 use Rattle.network.specs.ListsLemmas.{below_at, at_below}
 use Rattle.network.proofs.deadlines.is_nowhere_above.Goals as goal
 
-pub returns-then-is-past : goal.returns-then-is-past
-returns-then-is-past c = (
+pub returns-then-is_past : goal.returns-then-is_past
+returns-then-is_past c = (
   (λ b. absurd b),
   (λ h.
       let i = c.loop-i.i in

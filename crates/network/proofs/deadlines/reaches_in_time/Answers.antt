@@ -8,9 +8,9 @@ returns g c =
     let m = g.N.Network.meaning c.args.network.now in
     let x = c.args.starts.now in
     let v = c.args.limits.now in
-    let p = c.in-ok-arrivals.ensures in
+    let p = c.in_ok-arrivals.ensures in
     let e : length v ≡ m.stations = search rules in
-    let told : T c.is-nowhere-above.result ↔ (m.arrivals x ≼ v) = subst (λ (z : List ℤ). T c.is-nowhere-above.result ↔ (z ≼ v)) p.2 c.is-nowhere-above.ensures in (
+    let told : T c.is_nowhere_above.result ↔ (m.arrivals x ≼ v) = subst (λ (z : List ℤ). T c.is_nowhere_above.result ↔ (z ≼ v)) p.2 c.is_nowhere_above.ensures in (
       p.0,
       e,
       record {

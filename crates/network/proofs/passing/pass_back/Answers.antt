@@ -11,7 +11,7 @@ returns g c =
     let b = g.B.Network.meaning c.args.second.now in
     let la = g.met.A.Network.lawful c.args.first.now in
     let lb = g.met.B.Network.lawful c.args.second.now in
-    let p = c.in-ok-latest.ensures in
+    let p = c.in_ok-latest.ensures in
     let long : length c.latest.new.out ≡ c.benches-made.result = ap length p.2 ∙ (lb.latest_row _).count ∙ sym c.benches-made.ensures in
     let e = room_padded d c.stations-taken.result c.benches-made.result a.stations c.latest.new.out _ c.args.room.now c.requires c.stations-taken.ensures la.stations_size.few (rw c.benches-made.ensures lb.benches_size.few) long p.2 in
     answered_through b.stations a.stations a.benches a.latest (λ vs. padded d a.stations (b.latest vs)) c.args.limits.now _ _ _ c.latest-2.result p.0 (ap length e ∙ length_listed _ a.stations) e c.latest-2.ensures

@@ -11,7 +11,7 @@ returns g c =
     let b = g.B.Network.meaning c.args.second.now in
     let la = g.met.A.Network.lawful c.args.first.now in
     let lb = g.met.B.Network.lawful c.args.second.now in
-    let p = c.in-ok-arrivals.ensures in
+    let p = c.in_ok-arrivals.ensures in
     let long : length c.arrivals.new.out ≡ c.stations-made.result = ap length p.2 ∙ (la.arrivals_row _).count ∙ sym c.stations-made.ensures in
     let e = room_padded d c.benches-taken.result c.stations-made.result b.benches c.arrivals.new.out _ c.args.room.now c.requires c.benches-taken.ensures lb.benches_size.few (rw c.stations-made.ensures la.stations_size.few) long p.2 in
     answered_through a.benches b.benches b.stations b.arrivals (λ xs. padded d b.benches (a.arrivals xs)) c.args.starts.now _ _ _ c.arrivals-2.result p.0 (ap length e ∙ length_listed _ b.benches) e c.arrivals-2.ensures

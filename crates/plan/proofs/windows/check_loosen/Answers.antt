@@ -17,9 +17,9 @@ returns-in-Err g c =
 pub returns : goal.returns
 returns g c =
     let σ = g.S.Scale.algebra in
-    let a = answer c.check-wider.result in
+    let a = answer c.check_wider.result in
     let f = c.ranges.floor in
     let t = c.ranges.ceiling in
-    let h = simp to_z-of_z at c.in-default.ensures in
-    let w = simp to_z-of_z at c.check-wider.ensures in
+    let h = simp to_z-of_z at c.in_default.ensures in
+    let w = simp to_z-of_z at c.check_wider.ensures in
     more_checks (window_value_checks σ c.args.floor c.args.ceiling) (wider_checks c.args.b c.args.floor c.args.ceiling) a h w

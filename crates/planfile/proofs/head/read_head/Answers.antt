@@ -6,7 +6,7 @@ use Rattle.planfile.specs.declared.heads.Head.{Head}
 use Rattle.planfile.specs.Heads.{head_of, kind}
 use Rattle.planfile.proofs.HeadBytes.{bad, over, stage_1, stage_2, stage_3, stage_4, stage_5, told_fault, none_made, a_size}
 use Rattle.planfile.proofs.head.read_head.Goals as goal
-use Rattle.planfile.proofs.head.read_head.Goals.{in-default-via-then-file-lt1, in-default-via-in-len1-up+else-not-one-to+then-file-lt2, in-default-via-in-len2-up+else-not-one-to-2+then-file-lt3, in-default-via-in-len3-up+else-not-one-to-3+then-file-lt4, in-default-via-in-len4-up+else-not-one-to-4+then-file-lt5}
+use Rattle.planfile.proofs.head.read_head.Goals.{in_default-via-then-file-lt1, in_default-via-in-len1-up+else-not-one_to+then-file-lt2, in_default-via-in-len2-up+else-not-one_to-2+then-file-lt3, in_default-via-in-len3-up+else-not-one_to-3+then-file-lt4, in_default-via-in-len4-up+else-not-one_to-4+then-file-lt5}
 
 pub returns-in-len1-up : goal.returns-in-len1-up
 unfolding head_of
@@ -16,7 +16,7 @@ returns-in-len1-up c =
     let r = c.fault.result in
     let f = fault Edition 0 in
     record {
-      reads = told_fault file r f c.fault.ensures (bad file 0 1 Edition _ (omega arith) (sym c.if-not-one-to.ensures));
+      reads = told_fault file r f c.fault.ensures (bad file 0 1 Edition _ (omega arith) (sym c.if-not-one_to.ensures));
       sized = none_made r f _ c.fault.ensures;
     }
 
@@ -27,7 +27,7 @@ returns-in-len2-up c =
     let r = c.fault-in-len2-up.result in
     let f = fault UnknownScale 1 in
     record {
-      reads = told_fault file r f c.fault-in-len2-up.ensures (stage_1 file (omega arith) (sym c.if-not-one-to.ensures) ∙ bad file 1 2 UnknownScale _ (omega arith) (sym c.if-not-one-to-2.ensures));
+      reads = told_fault file r f c.fault-in-len2-up.ensures (stage_1 file (omega arith) (sym c.if-not-one_to.ensures) ∙ bad file 1 2 UnknownScale _ (omega arith) (sym c.if-not-one_to-2.ensures));
       sized = none_made r f _ c.fault-in-len2-up.ensures;
     }
 
@@ -38,7 +38,7 @@ returns-in-len3-up c =
     let r = c.fault-in-len3-up.result in
     let f = fault Size 2 in
     record {
-      reads = told_fault file r f c.fault-in-len3-up.ensures (stage_2 file (omega arith) (sym c.if-not-one-to.ensures) (sym c.if-not-one-to-2.ensures) ∙ bad file 2 32 Size _ (omega arith) (sym c.if-not-one-to-3.ensures));
+      reads = told_fault file r f c.fault-in-len3-up.ensures (stage_2 file (omega arith) (sym c.if-not-one_to.ensures) (sym c.if-not-one_to-2.ensures) ∙ bad file 2 32 Size _ (omega arith) (sym c.if-not-one_to-3.ensures));
       sized = none_made r f _ c.fault-in-len3-up.ensures;
     }
 
@@ -49,7 +49,7 @@ returns-in-len4-up c =
     let r = c.fault-in-len4-up.result in
     let f = fault Size 3 in
     record {
-      reads = told_fault file r f c.fault-in-len4-up.ensures (stage_3 file (omega arith) (sym c.if-not-one-to.ensures) (sym c.if-not-one-to-2.ensures) (sym c.if-not-one-to-3.ensures) ∙ bad file 3 32 Size _ (omega arith) (sym c.if-not-one-to-4.ensures));
+      reads = told_fault file r f c.fault-in-len4-up.ensures (stage_3 file (omega arith) (sym c.if-not-one_to.ensures) (sym c.if-not-one_to-2.ensures) (sym c.if-not-one_to-3.ensures) ∙ bad file 3 32 Size _ (omega arith) (sym c.if-not-one_to-4.ensures));
       sized = none_made r f _ c.fault-in-len4-up.ensures;
     }
 
@@ -60,7 +60,7 @@ returns-in-len5-up c =
     let r = c.fault-in-len5-up.result in
     let f = fault Size 4 in
     record {
-      reads = told_fault file r f c.fault-in-len5-up.ensures (stage_4 file (omega arith) (sym c.if-not-one-to.ensures) (sym c.if-not-one-to-2.ensures) (sym c.if-not-one-to-3.ensures) (sym c.if-not-one-to-4.ensures) ∙ bad file 4 32 Size _ (omega arith) (sym c.if-not-one-to-5.ensures));
+      reads = told_fault file r f c.fault-in-len5-up.ensures (stage_4 file (omega arith) (sym c.if-not-one_to.ensures) (sym c.if-not-one_to-2.ensures) (sym c.if-not-one_to-3.ensures) (sym c.if-not-one_to-4.ensures) ∙ bad file 4 32 Size _ (omega arith) (sym c.if-not-one_to-5.ensures));
       sized = none_made r f _ c.fault-in-len5-up.ensures;
     }
 
@@ -75,22 +75,22 @@ returns-in-len5-up-2 c =
     (record { scale = kind (get_or file 1 0); stations = get_or file 2 0; left = get_or file 3 0; right = get_or file 4 0 }) =
     let k = c.kind.ensures in cc in
     record {
-      reads = ap (λ (h : Head). reached h 5) head ∙ sym (stage_5 file long (sym c.if-not-one-to.ensures) (sym c.if-not-one-to-2.ensures) (sym c.if-not-one-to-3.ensures) (sym c.if-not-one-to-4.ensures) (sym c.if-not-one-to-5.ensures));
-      sized = record { whole = long; small = record { stations = rw n (a_size _ (sym c.if-not-one-to-3.ensures)); left = rw l (a_size _ (sym c.if-not-one-to-4.ensures)); right = rw r (a_size _ (sym c.if-not-one-to-5.ensures)) } };
+      reads = ap (λ (h : Head). reached h 5) head ∙ sym (stage_5 file long (sym c.if-not-one_to.ensures) (sym c.if-not-one_to-2.ensures) (sym c.if-not-one_to-3.ensures) (sym c.if-not-one_to-4.ensures) (sym c.if-not-one_to-5.ensures));
+      sized = record { whole = long; small = record { stations = rw n (a_size _ (sym c.if-not-one_to-3.ensures)); left = rw l (a_size _ (sym c.if-not-one_to-4.ensures)); right = rw r (a_size _ (sym c.if-not-one_to-5.ensures)) } };
     }
 
-pub returns-in-default : goal.returns-in-default
+pub returns-in_default : goal.returns-in_default
 unfolding head_of
-returns-in-default c =
+returns-in_default c =
     let file = c.args.file.now in
-    let r = c.fault-in-default.result in
+    let r = c.fault-in_default.result in
     let f = fault Ends (length file) in
     let ends : reads head_of file 0 ≡ refused f =
-    elim c.in-default.branch [
-      | in-default-via-then-file-lt1 w ↦ let e : length file ≡ 0 = search rules in over file 0 1 Edition _ (omega arith) ∙ ap (λ n. refused (fault Ends n)) (sym e)
-      | in-default-via-in-len1-up+else-not-one-to+then-file-lt2 w ↦ let e : length file ≡ 1 = search rules in stage_1 file (omega arith) (sym w.if-not-one-to.ensures) ∙ over file 1 2 UnknownScale _ (omega arith) ∙ ap (λ n. refused (fault Ends n)) (sym e)
-      | in-default-via-in-len2-up+else-not-one-to-2+then-file-lt3 w ↦ let e : length file ≡ 2 = search rules in stage_2 file (omega arith) (sym w.if-not-one-to.ensures) (sym w.if-not-one-to-2.ensures) ∙ over file 2 32 Size _ (omega arith) ∙ ap (λ n. refused (fault Ends n)) (sym e)
-      | in-default-via-in-len3-up+else-not-one-to-3+then-file-lt4 w ↦ let e : length file ≡ 3 = search rules in stage_3 file (omega arith) (sym w.if-not-one-to.ensures) (sym w.if-not-one-to-2.ensures) (sym w.if-not-one-to-3.ensures) ∙ over file 3 32 Size _ (omega arith) ∙ ap (λ n. refused (fault Ends n)) (sym e)
-      | in-default-via-in-len4-up+else-not-one-to-4+then-file-lt5 w ↦ let e : length file ≡ 4 = search rules in stage_4 file (omega arith) (sym w.if-not-one-to.ensures) (sym w.if-not-one-to-2.ensures) (sym w.if-not-one-to-3.ensures) (sym w.if-not-one-to-4.ensures) ∙ over file 4 32 Size _ (omega arith) ∙ ap (λ n. refused (fault Ends n)) (sym e)
+    elim c.in_default.branch [
+      | in_default-via-then-file-lt1 w ↦ let e : length file ≡ 0 = search rules in over file 0 1 Edition _ (omega arith) ∙ ap (λ n. refused (fault Ends n)) (sym e)
+      | in_default-via-in-len1-up+else-not-one_to+then-file-lt2 w ↦ let e : length file ≡ 1 = search rules in stage_1 file (omega arith) (sym w.if-not-one_to.ensures) ∙ over file 1 2 UnknownScale _ (omega arith) ∙ ap (λ n. refused (fault Ends n)) (sym e)
+      | in_default-via-in-len2-up+else-not-one_to-2+then-file-lt3 w ↦ let e : length file ≡ 2 = search rules in stage_2 file (omega arith) (sym w.if-not-one_to.ensures) (sym w.if-not-one_to-2.ensures) ∙ over file 2 32 Size _ (omega arith) ∙ ap (λ n. refused (fault Ends n)) (sym e)
+      | in_default-via-in-len3-up+else-not-one_to-3+then-file-lt4 w ↦ let e : length file ≡ 3 = search rules in stage_3 file (omega arith) (sym w.if-not-one_to.ensures) (sym w.if-not-one_to-2.ensures) (sym w.if-not-one_to-3.ensures) ∙ over file 3 32 Size _ (omega arith) ∙ ap (λ n. refused (fault Ends n)) (sym e)
+      | in_default-via-in-len4-up+else-not-one_to-4+then-file-lt5 w ↦ let e : length file ≡ 4 = search rules in stage_4 file (omega arith) (sym w.if-not-one_to.ensures) (sym w.if-not-one_to-2.ensures) (sym w.if-not-one_to-3.ensures) (sym w.if-not-one_to-4.ensures) ∙ over file 4 32 Size _ (omega arith) ∙ ap (λ n. refused (fault Ends n)) (sym e)
     ] in
-    record { reads = told_fault file r f c.fault-in-default.ensures ends; sized = none_made r f _ c.fault-in-default.ensures }
+    record { reads = told_fault file r f c.fault-in_default.ensures ends; sized = none_made r f _ c.fault-in_default.ensures }

@@ -22,38 +22,38 @@ loop-rest-init c = (
   left_all (cells c.args.bounds c.args.benches c.args.map []) c.args.cursor.now,
 )
 
-pub overflow-add-bench : goal.overflow-add-bench
-overflow-add-bench c =
+pub overflow_add-bench : goal.overflow_add-bench
+overflow_add-bench c =
     let i = c.loop-rest.invariant in
     let t = turn c.args.benches c.loop-rest.row c.loop-rest.bench c.loop-rest.rest i.0 i.1 i.2 i.3 i.4 c.requires.few c.loop-rest-test.true in
-    let h = place c.args.bounds _ _ _ _ t c.next-bit-gap.ensures in
+    let h = place c.args.bounds _ _ _ _ t c.next_bit-gap.ensures in
     let few = t.few in
     search rules
 
-pub overflow-shr-rest : goal.overflow-shr-rest
-overflow-shr-rest c =
+pub overflow_shr-rest : goal.overflow_shr-rest
+overflow_shr-rest c =
     let i = c.loop-rest.invariant in
     let t = turn c.args.benches c.loop-rest.row c.loop-rest.bench c.loop-rest.rest i.0 i.1 i.2 i.3 i.4 c.requires.few c.loop-rest-test.true in
-    let h = place c.args.bounds _ _ _ _ t c.next-bit-gap.ensures in
+    let h = place c.args.bounds _ _ _ _ t c.next_bit-gap.ensures in
     let few = t.few in
     omega arith
 
-pub returns-in-err-a : goal.returns-in-err-a
-returns-in-err-a c =
+pub returns-in_err-a : goal.returns-in_err-a
+returns-in_err-a c =
     let i = c.loop-rest.invariant in
     let t = turn c.args.benches c.loop-rest.row c.loop-rest.bench c.loop-rest.rest i.0 i.1 i.2 i.3 i.4 c.requires.few c.loop-rest-test.true in
     let b = c.args.bounds in
     let whole = cells b c.args.benches c.args.map [] in
     let cursor = c.args.cursor.now in
-    let left = left_as whole _ _ cursor c.loop-rest.cursor i.6 (next b _ _ _ _ t c.next-bit-gap.ensures) in
-    left_fault whole cursor (number_in b Coefficient) _ c.loop-rest.cursor c.read-number.new.cursor (λ v. v) (take c.args.benches) _ c.from-residual.result
-    left c.in-err-a.ensures c.from-residual.ensures.1
+    let left = left_as whole _ _ cursor c.loop-rest.cursor i.6 (next b _ _ _ _ t c.next_bit-gap.ensures) in
+    left_fault whole cursor (number_in b Coefficient) _ c.loop-rest.cursor c.read_number.new.cursor (λ v. v) (take c.args.benches) _ c.from_residual.result
+    left c.in_err-a.ensures c.from_residual.ensures.1
 
-pub offset-bounds-row-bench : goal.offset-bounds-row-bench
-offset-bounds-row-bench c =
+pub offset_bounds-row-bench : goal.offset_bounds-row-bench
+offset_bounds-row-bench c =
     let i = c.loop-rest.invariant in
     let t = turn c.args.benches c.loop-rest.row c.loop-rest.bench c.loop-rest.rest i.0 i.1 i.2 i.3 i.4 c.requires.few c.loop-rest-test.true in
-    let h = place c.args.bounds _ _ _ _ t c.next-bit-gap.ensures in
+    let h = place c.args.bounds _ _ _ _ t c.next_bit-gap.ensures in
     let few = t.few in
     search rules
 
@@ -61,15 +61,15 @@ pub bounds-row-bench : goal.bounds-row-bench
 bounds-row-bench c =
     let i = c.loop-rest.invariant in
     let t = turn c.args.benches c.loop-rest.row c.loop-rest.bench c.loop-rest.rest i.0 i.1 i.2 i.3 i.4 c.requires.few c.loop-rest-test.true in
-    let h = place c.args.bounds _ _ _ _ t c.next-bit-gap.ensures in
+    let h = place c.args.bounds _ _ _ _ t c.next_bit-gap.ensures in
     let few = t.few in
     omega (arith, length-take c.args.benches c.loop-rest.row, i.5)
 
-pub overflow-add-bench-in-loop-rest : goal.overflow-add-bench-in-loop-rest
-overflow-add-bench-in-loop-rest c =
+pub overflow_add-bench-in-loop-rest : goal.overflow_add-bench-in-loop-rest
+overflow_add-bench-in-loop-rest c =
     let i = c.loop-rest.invariant in
     let t = turn c.args.benches c.loop-rest.row c.loop-rest.bench c.loop-rest.rest i.0 i.1 i.2 i.3 i.4 c.requires.few c.loop-rest-test.true in
-    let h = place c.args.bounds _ _ _ _ t c.next-bit-gap.ensures in
+    let h = place c.args.bounds _ _ _ _ t c.next_bit-gap.ensures in
     let few = t.few in
     search rules
 
@@ -81,18 +81,18 @@ loop-rest-preserved c =
     let n = c.args.benches in
     let whole = cells b n c.args.map [] in
     let cursor = c.args.cursor.now in
-    let a = c.in-ok-a.a in
+    let a = c.in_ok-a.a in
     let fits : SFits w32 a = search rules in
-    let at = c.loop-rest.bench + c.next-bit-gap.result in
-    let inside : at < n = omega (arith, place b _ _ _ _ t c.next-bit-gap.ensures, length-take n c.loop-rest.row) in
-    let left = left_as whole _ _ cursor c.loop-rest.cursor i.6 (next b _ _ _ _ t c.next-bit-gap.ensures) in (
-      more b _ _ _ _ t c.next-bit-gap.ensures a,
-      (bit b _ _ _ _ t c.next-bit-gap.ensures).0,
-      ap (λ z. take n (set c.loop-rest.row at (Some z))) (to_z-of_z w32 a fits) ∙ take-set-lt n c.loop-rest.row at (Some a) inside ∙ more_row b _ _ _ _ t c.next-bit-gap.ensures a,
-      more_size b _ _ _ _ t c.next-bit-gap.ensures a,
-      (bit b _ _ _ _ t c.next-bit-gap.ensures).3,
+    let at = c.loop-rest.bench + c.next_bit-gap.result in
+    let inside : at < n = omega (arith, place b _ _ _ _ t c.next_bit-gap.ensures, length-take n c.loop-rest.row) in
+    let left = left_as whole _ _ cursor c.loop-rest.cursor i.6 (next b _ _ _ _ t c.next_bit-gap.ensures) in (
+      more b _ _ _ _ t c.next_bit-gap.ensures a,
+      (bit b _ _ _ _ t c.next_bit-gap.ensures).0,
+      ap (λ z. take n (set c.loop-rest.row at (Some z))) (to_z-of_z w32 a fits) ∙ take-set-lt n c.loop-rest.row at (Some a) inside ∙ more_row b _ _ _ _ t c.next_bit-gap.ensures a,
+      more_size b _ _ _ _ t c.next_bit-gap.ensures a,
+      (bit b _ _ _ _ t c.next_bit-gap.ensures).3,
       length-set c.loop-rest.row at _ ∙ i.5,
-      left_more whole cursor (number_in b Coefficient) _ c.loop-rest.cursor c.read-number.new.cursor (λ v. v) a left c.in-ok-a.ensures,
+      left_more whole cursor (number_in b Coefficient) _ c.loop-rest.cursor c.read_number.new.cursor (λ v. v) a left c.in_ok-a.ensures,
     )
 
 pub returns : goal.returns

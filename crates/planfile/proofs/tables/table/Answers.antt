@@ -3,8 +3,8 @@ use Rattle.table.specs.Cells.{Holds}
 use Rattle.table.proofs.Places.{few_cells}
 use Rattle.planfile.proofs.tables.table.Goals as goal
 
-pub slice-bounds-new-end : goal.slice-bounds-new-end
-slice-bounds-new-end g c =
+pub slice_bounds-new-end : goal.slice_bounds-new-end
+slice_bounds-new-end g c =
     let few = few_cells c.args.stations c.args.benches c.requires.stations.few c.requires.benches.few in
     let cells = c.requires.cells in
     search rules

@@ -14,7 +14,7 @@ returns-then-stands c =
     let cursor = c.args.cursor.now in
     let l = limit b c.args.stands c.args.otherwise in
     let left = left_as l l (number_in b Window) cursor cursor (left_all l cursor) (ap (λ t. limit b t c.args.otherwise) c.if-stands.true) in
-    left_last l (number_in b Window) cursor cursor c.read-number.new.cursor (λ v. v) c.read-number.result left c.read-number.ensures
+    left_last l (number_in b Window) cursor cursor c.read_number.new.cursor (λ v. v) c.read_number.result left c.read_number.ensures
 
 pub returns-else-stands : goal.returns-else-stands
 unfolding limit

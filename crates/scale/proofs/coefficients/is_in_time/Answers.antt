@@ -11,5 +11,5 @@ returns g c =
     let x = c.ranges.x in
     let p : SFits w32 c.product.result = search rules in
     let e = simp to_z-of_z at c.product.ensures in
-    subst (InTime s c.args.a c.args.x c.args.b) (sym (c.is-at-most.ensures ∙ ap₂ le_z (to_z-of_z w32 _ p ∙ e) (to_z-of_z w32 _ c.ranges.b)))
+    subst (InTime s c.args.a c.args.x c.args.b) (sym (c.is_at_most.ensures ∙ ap₂ le_z (to_z-of_z w32 _ p ∙ e) (to_z-of_z w32 _ c.ranges.b)))
     (in_time s g.met.S.Scale.lawful c.args.a c.args.x c.args.b)

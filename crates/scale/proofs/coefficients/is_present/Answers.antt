@@ -13,5 +13,5 @@ returns g c =
     let h : SFits w32 c.highest.result = search rules in
     let p : SFits w32 c.product.result = search rules in
     let e = simp to_z-of_z at c.product.ensures ∙ ap (product_of s (Some c.args.a)) c.highest.ensures in
-    c.is-above.ensures ∙ ap₂ lt_z (to_z-of_z w32 _ l ∙ c.lowest.ensures) (to_z-of_z w32 _ p ∙ e)
+    c.is_above.ensures ∙ ap₂ lt_z (to_z-of_z w32 _ l ∙ c.lowest.ensures) (to_z-of_z w32 _ p ∙ e)
     ∙ sym (present_is s g.met.S.Scale.lawful c.args.a)

@@ -6,21 +6,21 @@ use Rattle.benches.specs.Records.{records}
 use Rattle.benches.proofs.Parts.{part_written, part_read}
 use Rattle.benches.proofs.table.Benches.cut.Goals as goal
 
-pub invariant-of-self : goal.invariant-of-self
-invariant-of-self c =
+pub invariant_of-self : goal.invariant_of-self
+invariant_of-self c =
     let b = c.args.self.now in
-    let after = c.cut-rows.new.rows in
+    let after = c.cut_rows.new.rows in
     let same : length after ≡ length (mid_of 0 (b.count - 0) b.rows) = search rules in
     (b.few, (same_len_mid 0 (b.count - 0) b.rows after same ∙ b.full, tt))
 
 pub returns : goal.returns
 returns c =
     let b = c.args.self.now in
-    let after = c.cut-rows.new.rows in
+    let after = c.cut_rows.new.rows in
     let many : length after ≡ b.count = search rules in
     let whole = part_written b.count _ after b.rows many in
     let was = part_read b.count b.rows in
-    let s = c.cut-rows.ensures in
+    let s = c.cut_rows.ensures in
     record {
       table = whole ∙ s.table ∙ ap (λ (z : List Bench). cut z c.args.limits.now) was;
       rests = s.rests ∙ ap (λ (z : List Bench). same_list (starts z) (starts after)) was

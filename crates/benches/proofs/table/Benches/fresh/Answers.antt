@@ -11,5 +11,5 @@ returns c =
     let m : n ≡ min (length ws) 32 = search rules in
     let part = part_read n ws in
     let count : n ≡ length (mid_of 0 (n - 0) ws) = count_taken n ws (omega arith) ∙ ap length (sym part) in
-    ap (λ (k : ℕ). take k c.fresh-rows-rows.result) count ∙ c.fresh-rows-rows.ensures
+    ap (λ (k : ℕ). take k c.fresh_rows-rows.result) count ∙ c.fresh_rows-rows.ensures
     ∙ ap (map fresh_bench) (part ∙ ap (λ (k : ℕ). take k ws) m ∙ take_min 32 ws)

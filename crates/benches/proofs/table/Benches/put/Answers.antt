@@ -6,7 +6,7 @@ use Rattle.benches.proofs.table.Benches.put.Goals as goal
 pub returns-then-bench-self : goal.returns-then-bench-self
 returns-then-bench-self c =
     let b = c.args.self.now in
-    ap (take b.count) c.write-row.ensures ∙ take_set b.count c.args.bench b.rows c.args.row c.if-bench-self.true
+    ap (take b.count) c.write_row.ensures ∙ take_set b.count c.args.bench b.rows c.args.row c.if-bench-self.true
 
 pub returns-else-bench-self : goal.returns-else-bench-self
 returns-else-bench-self c =

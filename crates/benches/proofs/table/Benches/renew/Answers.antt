@@ -4,16 +4,16 @@ use Rattle.benches.specs.Records.{renew_bench}
 use Rattle.benches.proofs.Parts.{part_written, part_read}
 use Rattle.benches.proofs.table.Benches.renew.Goals as goal
 
-pub invariant-of-self : goal.invariant-of-self
-invariant-of-self c =
+pub invariant_of-self : goal.invariant_of-self
+invariant_of-self c =
     let b = c.args.self.now in
-    let after = c.renew-rows.new.rows in
+    let after = c.renew_rows.new.rows in
     let same : length after ≡ length (mid_of 0 (b.count - 0) b.rows) = search rules in
     (b.few, (same_len_mid 0 (b.count - 0) b.rows after same ∙ b.full, tt))
 
 pub returns : goal.returns
 returns c =
     let b = c.args.self.now in
-    let after = c.renew-rows.new.rows in
+    let after = c.renew_rows.new.rows in
     let many : length after ≡ b.count = search rules in
-    part_written b.count _ after b.rows many ∙ c.renew-rows.ensures ∙ ap (map renew_bench) (part_read b.count b.rows)
+    part_written b.count _ after b.rows many ∙ c.renew_rows.ensures ∙ ap (map renew_bench) (part_read b.count b.rows)

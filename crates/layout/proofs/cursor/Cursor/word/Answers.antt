@@ -14,6 +14,6 @@ returns c =
     let e : c.joined-v.result ≡ value file p 4 = omega (arith, simp rest_at at c.joined-v.ensures) in
     record { same = refl; comes = ap (λ v. reached v (p + 4)) e ∙ sym (reads_whole 4 (fault Ends) (λ _ v. gives v) file p w) }
 
-pub returns-in-default : goal.returns-in-default
+pub returns-in_default : goal.returns-in_default
 unfolding reads number
-returns-in-default c = search rules
+returns-in_default c = search rules

@@ -7,7 +7,7 @@ use Rattle.network.proofs.carriage.Carriage.new.Goals as goal
 
 pub returns-in-Some : goal.returns-in-Some
 returns-in-Some g c =
-    let s = g.Over-as-Scale.algebra in
+    let s = g.N.Over.Scale.algebra in
     let cs = c.args.coefficients.now in
     let e : ¬ (length cs ≢ (g.N.Network.meaning c.args.below).stations) = search rules in
     let j = c.in-Some.station in
@@ -15,9 +15,9 @@ returns-in-Some g c =
 
 pub returns : goal.returns
 returns g c =
-    let s = g.Over-as-Scale.algebra in
+    let s = g.N.Over.Scale.algebra in
     let cs = c.args.coefficients.now in
     let b = g.N.Network.meaning c.args.below in
     let n : ¬ (length cs ≢ b.stations) = search rules in
     let e : length cs ≡ b.stations = search rules in
-    ((n, present_checked s 0 cs c.in-default.ensures), carriage_same s c.copied.result cs b (λ k h. c.copied.ensures k (rw e h)))
+    ((n, present_checked s 0 cs c.in_default.ensures), carriage_same s c.copied.result cs b (λ k h. c.copied.ensures k (rw e h)))

@@ -8,4 +8,4 @@ returns g c =
     let b = g.B.Network.meaning c.args.second in
     let e : a.stations ≡ b.benches = search rules in
     let n : ¬ (a.stations ≢ b.benches) = search rules in
-    ((n, tt), series_chained g.Over-as-Scale.algebra a b (g.met.A.Network.lawful c.args.first) (g.met.B.Network.lawful c.args.second) e)
+    ((n, tt), series_chained g.A.Over.Scale.algebra a b (g.met.A.Network.lawful c.args.first) (g.met.B.Network.lawful c.args.second) e)

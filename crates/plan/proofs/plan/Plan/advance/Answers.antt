@@ -15,24 +15,24 @@ rounds-preserved g c =
           let r = c.rounds.invariant.1 f in
           let e = c.round.ensures r.1 in
           let more : Rounds (suc c.rounds.made) p (round q) = rounds_more c.rounds.made p q r.0 c.in-Open.is in
-          let count : suc c.rounds.made ≡ c.one-more-made.result = sym (c.one-more-made.ensures ∙ add-one c.rounds.made) in (
+          let count : suc c.rounds.made ≡ c.one_more-made.result = sym (c.one_more-made.ensures ∙ add-one c.rounds.made) in (
             subst (λ (k : ℕ). Rounds k p (model g.L.Network.meaning g.R.Network.meaning c.round.new.self)) count
                 (subst (λ (z : Model). Rounds (suc c.rounds.made) p z) (sym e) more),
             subst (λ (z : Model). Fitting z) (sym e) (fitting_round q r.1),
           ),
     )
 
-pub returns-then-is-used : goal.returns-then-is-used
-returns-then-is-used g c =
+pub returns-then-is_used : goal.returns-then-is_used
+returns-then-is_used g c =
     let p = model g.L.Network.meaning g.R.Network.meaning c.args.self.now in
     let q = model g.L.Network.meaning g.R.Network.meaning c.rounds.self in
     let used : c.rounds.made ≡ c.args.grant = search rules in
-    let b = both g.Over.Scale.algebra g.met.Over.Scale.lawful p q c.args.grant c.rounds.made c.rounds.invariant.1 c.rounds.invariant.0 (λ l. absurd (omega (arith, used))) in
+    let b = both g.L.Over.Scale.algebra g.met.L.Over.Scale.lawful p q c.args.grant c.rounds.made c.rounds.invariant.1 c.rounds.invariant.0 (λ l. absurd (omega (arith, used))) in
     record { advanced = b.advanced; foretold = b.foretold }
 
-pub returns-in-default : goal.returns-in-default
-returns-in-default g c =
+pub returns-in_default : goal.returns-in_default
+returns-in_default g c =
     let p = model g.L.Network.meaning g.R.Network.meaning c.args.self.now in
     let q = model g.L.Network.meaning g.R.Network.meaning c.rounds.self in
-    let b = both g.Over.Scale.algebra g.met.Over.Scale.lawful p q c.args.grant c.rounds.made c.rounds.invariant.1 c.rounds.invariant.0 (λ l. c.in-default.not-Open) in
+    let b = both g.L.Over.Scale.algebra g.met.L.Over.Scale.lawful p q c.args.grant c.rounds.made c.rounds.invariant.1 c.rounds.invariant.0 (λ l. c.in_default.not-Open) in
     record { advanced = b.advanced; foretold = b.foretold }

@@ -8,27 +8,27 @@ use Rattle.plan.specs.Models.{model}
 use Rattle.plan.proofs.Changes.{bench_refused, raise_accepted}
 use Rattle.plan.proofs.plan.Plan.raise.Goals as goal
 
-pub returns-in-err-check-floor : goal.returns-in-err-check-floor
-returns-in-err-check-floor g c =
-    let σ = g.Over.Scale.algebra in
+pub returns-in_err-check_floor : goal.returns-in_err-check_floor
+returns-in_err-check_floor g c =
+    let σ = g.L.Over.Scale.algebra in
     let p = model g.L.Network.meaning g.R.Network.meaning c.args.self.now in
-    let e = err_from_is_err_and c.from-residual.result c.from-residual.ensures.1 in
+    let e = err_from_is_err_and c.from_residual.result c.from_residual.ensures.1 in
     let k = c.in-Some.ensures in
     let v = c.args.floor in
-    let n = number c.in-err-check-floor.field-0.0 in
-    let h = subst (λ (z : ℤ). Checked (floor_checks σ p.state c.in-Some.b z) (refused n)) (to_z-of_z w32 v c.ranges.floor) c.in-err-check-floor.ensures in
+    let n = number c.in_err-check_floor.field-0.0 in
+    let h = subst (λ (z : ℤ). Checked (floor_checks σ p.state c.in-Some.b z) (refused n)) (to_z-of_z w32 v c.ranges.floor) c.in_err-check_floor.ensures in
     rw (e.1, e.2) (bench_refused p (raised p c.args.side c.args.bench v) c.args.side c.args.bench (λ b. floor_checks σ p.state b v) c.in-Some.b n k.0 k.1 h)
 
 pub returns : goal.returns
 returns g c =
-    let σ = g.Over.Scale.algebra in
+    let σ = g.L.Over.Scale.algebra in
     let p = model g.L.Network.meaning g.R.Network.meaning c.args.self.now in
     let p' = model g.L.Network.meaning g.R.Network.meaning c.put.new.self in
     let b = c.in-Some.b in
     let k = c.in-Some.ensures in
     let v = c.args.floor in
     let fits = c.ranges.floor in
-    let h = subst (λ (z : ℤ). Checked (floor_checks σ p.state b z) accepted) (to_z-of_z w32 v fits) c.in-ok-check-floor.ensures in
+    let h = subst (λ (z : ℤ). Checked (floor_checks σ p.state b z) accepted) (to_z-of_z w32 v fits) c.in_ok-check_floor.ensures in
     let r = simp to_z-of_z at c.raised-row.ensures in
-    let t = simp to_z-of_z at c.state-above-state.ensures in
-    raise_accepted σ p p' c.args.side c.args.bench v b c.raised-row.result c.state-above-state.result k.0 k.1 h r c.put.ensures t
+    let t = simp to_z-of_z at c.state_above-state.ensures in
+    raise_accepted σ p p' c.args.side c.args.bench v b c.raised-row.result c.state_above-state.result k.0 k.1 h r c.put.ensures t

@@ -9,10 +9,10 @@ returns g c fits =
     let a = g.L.Network.meaning in
     let b = g.R.Network.meaning in
     let p = c.args.self.now in
-    let q = c.cut-both-lefts-rest.new.self in
-    let rests = c.cut-both-lefts-rest.result in
-    let cuts = c.cut-both-lefts-rest.ensures in
-    ap₂ (λ x y. plan (a x) (b y) (records q.lefts) (records q.rights) c.verdict-of-self.result) cuts.left-network cuts.right-network
-    ∙ round_made (a p.left) (b p.right) (records p.lefts) (records p.rights) (records q.lefts) (records q.rights) p.state c.verdict-of-self.result
-    rests.0 rests.1 c.is-fallen-left-fell.result c.is-fallen-right-fell.result
-    cuts.right cuts.left c.is-fallen-left-fell.ensures c.is-fallen-right-fell.ensures c.verdict-of-self.ensures fits
+    let q = c.cut_both-lefts_rest.new.self in
+    let rests = c.cut_both-lefts_rest.result in
+    let cuts = c.cut_both-lefts_rest.ensures in
+    ap₂ (λ x y. plan (a x) (b y) (records q.lefts) (records q.rights) c.verdict_of-self.result) cuts.left_network cuts.right_network
+    ∙ round_made (a p.left) (b p.right) (records p.lefts) (records p.rights) (records q.lefts) (records q.rights) p.state c.verdict_of-self.result
+    rests.0 rests.1 c.is_fallen-left_fell.result c.is_fallen-right_fell.result
+    cuts.right cuts.left c.is_fallen-left_fell.ensures c.is_fallen-right_fell.ensures c.verdict_of-self.ensures fits

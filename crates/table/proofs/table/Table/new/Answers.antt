@@ -9,8 +9,8 @@ use Rattle.table.proofs.Places.{few_cells}
 use Rattle.table.specs.TableLaw.{table_same}
 use Rattle.table.proofs.table.Table.new.Goals as goal
 
-pub kept-cells-requires : goal.kept-cells-requires
-kept-cells-requires g c = omega (arith, few_cells c.args.stations c.args.benches (omega arith) (omega arith))
+pub kept_cells-requires : goal.kept_cells-requires
+kept_cells-requires g c = omega (arith, few_cells c.args.stations c.args.benches (omega arith) (omega arith))
 
 pub returns : goal.returns
 returns g c =
@@ -20,7 +20,7 @@ returns g c =
     let given = c.args.cells.now in
     let size : Size m × Size n = (record { some = omega arith; few = omega arith }, record { some = omega arith; few = omega arith }) in
     let count : length given ≡ m * n = c.if-cells-stations.false in
-    let cell : ℕ → ℕ → Option ℤ = λ i j. asked (at c.kept-cells.result (i * n + j)) in
+    let cell : ℕ → ℕ → Option ℤ = λ i j. asked (at c.kept_cells.result (i * n + j)) in
     let keeps : (i j : ℕ) → i < m → j < n → cell i j ≡ counted s (in_rows n given i j) =
-    λ i j h l. c.kept-cells.ensures (i * n + j) (omega (arith, mul-add-lt i n j m h l)) in
+    λ i j h l. c.kept_cells.ensures (i * n + j) (omega (arith, mul-add-lt i n j m h l)) in
     (((λ k. k size), ((λ k. k count), tt)), record { means = table_same s m n cell (in_rows n given) keeps; keeps = keeps })

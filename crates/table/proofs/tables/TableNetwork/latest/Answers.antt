@@ -7,8 +7,8 @@ use Rattle.table.specs.Cells.{cell_of}
 use Rattle.table.proofs.Places.{row_within, row_lowers}
 use Rattle.table.proofs.tables.TableNetwork.latest.Goals as goal
 
-pub slice-bounds-row-end : goal.slice-bounds-row-end
-slice-bounds-row-end g c =
+pub slice_bounds-row-end : goal.slice_bounds-row-end
+slice_bounds-row-end g c =
     let t = c.args.self.now in
     row_within t.stations t.benches c.loop-i.i c.loop-i.at t.few_stations t.few_benches c.loop-i-test.true c.loop-i.invariant.0
 
@@ -24,7 +24,7 @@ loop-i-preserved g c =
       λ k h.
           let l : k < length c.loop-i.out = omega arith in
           row_lowers s t.benches i c.loop-i.at _ k t.cells c.args.limits.now (at c.loop-i.out k) _ h c.loop-i.invariant.0 (omega arith)
-          (c.loop-i.invariant.1 k h) (rw e at (c.lower-row.ensures k l)),
+          (c.loop-i.invariant.1 k h) (rw e at (c.lower_row.ensures k l)),
     )
 
 pub returns : goal.returns
