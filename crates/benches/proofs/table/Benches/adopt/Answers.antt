@@ -9,7 +9,7 @@ invariant_of-self c =
     let b = c.args.self.now in
     let after = c.adopt_rows.new.rows in
     let same : length after ≡ length (mid_of 0 (b.count - 0) b.rows) = search rules in
-    (b.few, (same_len_mid 0 (b.count - 0) b.rows after same ∙ b.full, tt))
+    record { few = b.few; full = same_len_mid 0 (b.count - 0) b.rows after same ∙ b.full }
 
 pub returns : goal.returns
 returns c =

@@ -54,7 +54,7 @@ invariant_of-self c =
     let read = passed_row w.benches w.line w.part r.bytes.now r.at c.in_ok-map.map c.in_ok-map.end c.pass-passed.result c.on_line.result
     c.pass-passed.ensures c.on_line.ensures c.in_ok-map.ensures in
     let end = asked_end w.benches r.bytes.now r.at c.in_ok-map.map c.in_ok-map.end read in
-    (end.1, (r.few_stations, (r.few_left, (r.few_right, tt))))
+    record { within = end.1; few_stations = r.few_stations; few_left = r.few_left; few_right = r.few_right }
 
 pub returns : goal.returns
 returns c =
