@@ -3,3 +3,4 @@ pub mod Minutes
 pub mod Grades
 pub mod Presence
 pub mod MinutesLaw
+pub mod GradesLaw

@@ -3,7 +3,7 @@ ghost use Rattle.std.specs.Prelude.{◌≡◌, pos};
 ghost use Rattle.std.specs.Option.{unwrap_or};
 ghost use Rattle.scale.specs.Algebra.{counted, held};
 ghost use Rattle.scale.specs.Grades.{grades};
-ghost use Rattle.std.proofs.Common.{rules, arith};
+ghost use Rattle.scale.specs.GradesLaw.{grades_lawful};
 
 use crate::scale::Scale;
 
@@ -39,7 +39,7 @@ impl Scale for Grades {
 
     ghost algebra = { grades };
 
-    ghost lawful = { first_of (Prim.search rules, Prim.grind (arith, Self.row.coded.inj)) };
+    ghost lawful = { grades_lawful };
 
     fn lowest(&self) -> i32 {
         self.lowest
