@@ -1,5 +1,5 @@
 -- What it means that a file follows a layout, by writing: the numbers of the fields are written one after another. Assumes nothing.
-use Rattle.std.specs.Prelude.{◌≡◌, ℕ, zero, suc, ◌+◌, ◌/◌, ◌%◌, ◌^◌, ◌<◌, List, [], ◌∷◌, ◌++◌, length, slice_index}
+use Rattle.std.specs.Prelude.{ℕ, zero, suc, ◌+◌, ◌/◌, ◌%◌, ◌^◌, ◌<◌, List, [], ◌∷◌, ◌++◌, length, slice_index}
 use Rattle.layout.specs.Layouts.{Layout, gives, fails, field}
 
 -- v in w bytes, the first byte worth most

@@ -1,5 +1,5 @@
 -- One turn of the loop over a row's bits. Assumes nothing.
-use Rattle.std.proofs.Common.{◌≡◌, ℕ, zero, suc, ◌+◌, ◌/◌, ◌^◌, ◌<◌, ◌≤◌, List, [], ◌∷◌, ◌++◌, length, take, set, replicate, ℤ, Some, None, Option, sym, ap, ◌∙◌, subst, arith}
+use Rattle.std.proofs.Common.{◌≡◌, ℕ, suc, ◌+◌, ◌/◌, ◌^◌, ◌<◌, ◌≤◌, List, [], ◌∷◌, ◌++◌, length, take, set, replicate, ℤ, Some, None, Option, sym, ap, ◌∙◌, subst, arith}
 use lib.Count.{count_trailing_zeros}
 use Rattle.std.proofs.lemmas.List.{append_assoc, length-append, length-replicate, length-take, set_at, replicate-append-replicate}
 use Rattle.network.specs.declared.refusal.Refusal.TheVariants.{Coefficient}

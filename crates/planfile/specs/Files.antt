@@ -1,5 +1,5 @@
 -- A plan file as a layout: what it says, and how it is read. Assumes nothing.
-use Rattle.std.specs.Prelude.{ℕ, ◌*◌, cond, List, [], length, ℤ, Ok, Err, Option, Result, nat_lt}
+use Rattle.std.specs.Prelude.{ℕ, cond, List, [], length, ℤ, Ok, Err, Option, Result, nat_lt}
 use Rattle.scale.specs.Algebra.{Algebra}
 use Rattle.scale.specs.Minutes.{minutes}
 use Rattle.scale.specs.Grades.{grades}

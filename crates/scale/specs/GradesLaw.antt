@@ -1,5 +1,5 @@
 -- Fit grades keep the law of scales. Assumes nothing.
-use Rattle.std.specs.Prelude.{◌↔◌, ℤ, ◌≤ℤ◌, Some, None, Option, refl}
+use Rattle.std.specs.Prelude.{◌↔◌, ℤ, ◌≤ℤ◌, Some, None, Option}
 use Rattle.std.proofs.Common.{arith}
 use Rattle.std.proofs.lemmas.Int.{ints}
 use Rattle.scale.specs.Algebra.{LawfulScale, Value, Coefficient}

@@ -1,4 +1,4 @@
-use Rattle.std.proofs.Common.{◌≡◌, cond, ap, ◌∙◌, w32, SFits, rules}
+use Rattle.std.proofs.Common.{cond, ap, ◌∙◌, w32, SFits, rules}
 use Rattle.std.proofs.lemmas.Int.{to_z-of_z}
 use Rattle.layout.specs.Faults.{fault}
 use Rattle.layout.specs.Layouts.{gives, fails}

@@ -1,4 +1,4 @@
-use Rattle.std.proofs.Common.{◌≡◌, ℕ, ◌<◌, ◌≤◌, length, get_or, sym, refl, ap, ◌∙◌, ap₂, arith, rules}
+use Rattle.std.proofs.Common.{◌≡◌, ◌≤◌, length, get_or, sym, ap, ◌∙◌, arith, rules}
 use Rattle.network.specs.declared.refusal.Refusal.TheVariants.{Ends, Edition, UnknownScale, Size}
 use Rattle.layout.specs.Faults.{fault}
 use Rattle.layout.specs.Layouts.{reached, refused, reads}

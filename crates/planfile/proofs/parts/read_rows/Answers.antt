@@ -1,4 +1,4 @@
-use Rattle.std.proofs.Common.{◌≡◌, suc, ◌+◌, ◌-◌, ◌*◌, ◌<◌, ◌≤◌, [], ◌++◌, length, take, sym, refl, ap, ◌∙◌, add-mul, arith, rules}
+use Rattle.std.proofs.Common.{◌≡◌, ◌+◌, ◌-◌, ◌*◌, ◌<◌, [], ◌++◌, length, take, sym, ap, ◌∙◌, add-mul, arith, rules}
 use Rattle.std.proofs.lemmas.List.{length-take}
 use Rattle.layout.specs.Faults.{on_line}
 use Rattle.layout.specs.Layouts.{told}

@@ -1,14 +1,13 @@
-use Rattle.std.proofs.Common.{◌≡◌, ℕ, ◌+◌, ◌<◌, ◌≤◌, List, [], length, take, set, replicate, Some, None, sym, refl, ap, ◌∙◌, arith, w32, SFits, rules}
+use Rattle.std.proofs.Common.{◌+◌, ◌<◌, [], take, set, Some, None, refl, ap, ◌∙◌, arith, w32, SFits, rules}
 use lib.Seq.{take-set-lt}
 use Rattle.std.proofs.lemmas.List.{length-set, length-take, take-replicate}
 use Rattle.std.proofs.lemmas.Int.{to_z-of_z}
 use Rattle.network.specs.declared.refusal.Refusal.TheVariants.{Coefficient}
-use Rattle.layout.specs.Layouts.{then, gives}
 use Rattle.layout.specs.Numbers.{number_in}
 use Rattle.layout.proofs.Steps.{left_all, left_as, left_fault, left_more, read_all}
 use Rattle.planfile.specs.Rows.{cells}
 use Rattle.planfile.proofs.Bits.{cells_rest}
-use Rattle.planfile.proofs.Turns.{Turn, turn, bit, place, next, more, more_size, more_row}
+use Rattle.planfile.proofs.Turns.{turn, bit, place, next, more, more_size, more_row}
 use Rattle.planfile.proofs.rows.read_cells.Goals as goal
 
 pub loop-rest-init : goal.loop-rest-init

@@ -1,4 +1,4 @@
-use Rattle.std.proofs.Common.{◌≡◌, ℕ, ◌-◌, ◌*◌, ◌≤◌, List, take, subst, arith, rules}
+use Rattle.std.proofs.Common.{◌≡◌, ℕ, ◌-◌, ◌*◌, take, subst, arith, rules}
 use Rattle.table.specs.Cells.{Holds}
 use Rattle.table.proofs.Places.{few_cells}
 use Rattle.planfile.proofs.tables.table.Goals as goal

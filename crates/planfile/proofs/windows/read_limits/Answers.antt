@@ -3,7 +3,7 @@ use lib.Signed.{le_z}
 use Rattle.std.proofs.lemmas.Int.{to_z-of_z}
 use Rattle.network.specs.declared.refusal.Refusal.TheVariants.{Crossed}
 use Rattle.layout.specs.Faults.{fault}
-use Rattle.layout.specs.Layouts.{gives, fails, then}
+use Rattle.layout.specs.Layouts.{gives, fails}
 use Rattle.layout.specs.Reading.{Reads}
 use Rattle.layout.proofs.Steps.{left_all, left_fault, left_more}
 use Rattle.layout.proofs.Decided.{decides}
