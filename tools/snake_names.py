@@ -2,8 +2,9 @@
 """Spells the definitions and lemmas of this repository as today's Rattle does: in snake case, with no dash.
 
 Run it once, at the top, after /opt/rattle/port/port.py: python3 tools/snake_names.py
-It changes the names below, as whole words, in the clauses of crates/*/src/*.rt and in all of crates/**/*.antt. Comments and strings
-stay. It refuses to run where a new name stands in an .antt file already, since two names would fall together.
+It changes the names below, as whole words, in crates/**/*.rt and crates/**/*.antt, but for comments and for the strings of code. It
+refuses to run where a new name stands in an .antt file already, since two definitions would fall together. It does not look at the
+names of code: functions, fields and parameters may be called as a definition is.
 """
 
 import os
@@ -60,6 +61,7 @@ values-at verdict-impossible verdict-open verdict-possible verdict-step wider-ch
 window-fault window-is window-laid window-last window-lays window-next window-of window-read window-value-checks window-values
 window-written windows-alter windows-in windows-laid windows-lay windows-next windows-none windows-of windows-part windows-proper
 windows-written word-short writes-unique written-more
+≤-refl ≤-antisym ≼-antisym ≼-of-eq
 """
 
 OLD = sorted(NAMES.split(), key=len, reverse=True)

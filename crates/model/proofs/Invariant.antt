@@ -7,7 +7,7 @@ use Rattle.model.specs.declared.State.{State}
 use Rattle.model.specs.declared.State.TheVariants.{Open, InStep, Impossible}
 use Rattle.model.specs.Plans.{Model, starts}
 use Rattle.model.specs.Sheets.{HallSheet, Sheet, Keeps, Fits, Greatest, own_sheet, fresh}
-use Rattle.model.proofs.Order.{≼-antisym}
+use Rattle.model.proofs.Order.{≼_antisym}
 use Rattle.model.proofs.Tables.{Proper, keeps_row, fresh_keeps, fresh_above, fresh_windows}
 
 -- a network and its windows
@@ -84,7 +84,7 @@ core_greatest σ s p c e =
     let can = step_possible p.state e in
     let m = c.meets e in
     record {
-      fits = record { left_keeps = c.left_keeps can; right_keeps = c.right_keeps can; together = ≼-antisym (s.left.network.arrivals (lefts p)) (s.right.network.arrivals (rights p)) m.left_first m.right_first };
+      fits = record { left_keeps = c.left_keeps can; right_keeps = c.right_keeps can; together = ≼_antisym (s.left.network.arrivals (lefts p)) (s.right.network.arrivals (rights p)) m.left_first m.right_first };
       highest = c.above can;
     }
 

@@ -1,13 +1,13 @@
 -- Laws of the order of lists, place by place. Assumes nothing.
 use Rattle.std.proofs.Common.{◌≡◌, ℕ, suc, Bool, true, false, ◌&&◌, ◌||◌, T, eqb, ◌⊎◌, List, [], ◌∷◌, length, ℤ, pos, negsuc, sym, refl, ap, ◌∙◌, subst, ap₂, inl, inr, arith, eqb→eq}
 use lib.Dec.{eqb_refl}
-use Rattle.scale.proofs.Integers.{≤-refl, ≤_trans, ≤-antisym}
+use Rattle.scale.proofs.Integers.{≤_refl, ≤_trans, ≤_antisym}
 use Rattle.network.specs.Lists.{◌≼◌}
 use Rattle.model.specs.Plans.{same_number, same_list}
 
 pub ≼_refl : (x : List ℤ) → x ≼ x
 ≼_refl [] = tt
-≼_refl (a ∷ x) = (≤-refl a, ≼_refl x)
+≼_refl (a ∷ x) = (≤_refl a, ≼_refl x)
 
 pub ≼_trans : (x y z : List ℤ) → x ≼ y → y ≼ z → x ≼ z
 ≼_trans [] [] z h k = k
@@ -16,14 +16,14 @@ pub ≼_trans : (x y z : List ℤ) → x ≼ y → y ≼ z → x ≼ z
 ≼_trans (a ∷ x) (b ∷ y) [] h k = absurd k
 ≼_trans (a ∷ x) (b ∷ y) (c ∷ z) h k = (≤_trans a b c h.0 k.0, ≼_trans x y z h.1 k.1)
 
-pub ≼-antisym : (x y : List ℤ) → x ≼ y → y ≼ x → x ≡ y
-≼-antisym [] [] h k = refl
-≼-antisym [] (b ∷ y) h k = absurd h
-≼-antisym (a ∷ x) [] h k = absurd h
-≼-antisym (a ∷ x) (b ∷ y) h k = ap₂ ◌∷◌ (≤-antisym a b h.0 k.0) (≼-antisym x y h.1 k.1)
+pub ≼_antisym : (x y : List ℤ) → x ≼ y → y ≼ x → x ≡ y
+≼_antisym [] [] h k = refl
+≼_antisym [] (b ∷ y) h k = absurd h
+≼_antisym (a ∷ x) [] h k = absurd h
+≼_antisym (a ∷ x) (b ∷ y) h k = ap₂ ◌∷◌ (≤_antisym a b h.0 k.0) (≼_antisym x y h.1 k.1)
 
-pub ≼-of-eq : (x y : List ℤ) → x ≡ y → x ≼ y
-≼-of-eq x y e = subst (λ (z : List ℤ). x ≼ z) e (≼_refl x)
+pub ≼_of_eq : (x y : List ℤ) → x ≡ y → x ≼ y
+≼_of_eq x y e = subst (λ (z : List ℤ). x ≼ z) e (≼_refl x)
 
 pub ≼-length : (x y : List ℤ) → x ≼ y → length x ≡ length y
 ≼-length [] [] h = refl

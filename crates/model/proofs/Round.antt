@@ -9,7 +9,7 @@ use Rattle.model.specs.declared.State.TheVariants.{Open, InStep, Impossible}
 use Rattle.model.specs.Plans.{Hall, Model, starts, cut_by, fallen, unmoved, verdict, round, Rounds, spare, slack, slack_in}
 use Rattle.model.specs.Sheets.{Sheet, Keeps, Fits, own_sheet}
 use Rattle.model.specs.Calls.{Advanced}
-use Rattle.model.proofs.Order.{≼-of-eq, and_true, and_false, or_true, or_false, same_list_true}
+use Rattle.model.proofs.Order.{≼_of_eq, and_true, and_false, or_true, or_false, same_list_true}
 use Rattle.model.proofs.Tables.{cut_windows, cut_keeps, fallen_none, cut_spare, cut_falls, keeps_spare}
 use Rattle.model.proofs.Halves.{half_row, half_arrives, half_above}
 use Rattle.model.proofs.Invariant.{Core, Good, row_of, open_possible}
@@ -74,13 +74,13 @@ module _ (σ : Algebra) (p : Model) (c : Good σ p) (o : p.state ≡ Open) where
   above_r x y f =
       half_above σ p.right.network p.left.network c.sound.right.lawful c.sound.left.lawful c.sound.level p.right.table p.left.table row_r row_l
       y x (row_of σ (own_sheet p).right y c.sound.right f.right_keeps) (row_of σ (own_sheet p).left x c.sound.left f.left_keeps)
-      (c.above can x y f).1 (c.above can x y f).0 (≼-of-eq (p.right.network.arrivals y) (p.left.network.arrivals x) (sym f.together))
+      (c.above can x y f).1 (c.above can x y f).0 (≼_of_eq (p.right.network.arrivals y) (p.left.network.arrivals x) (sym f.together))
 
   above_l : (x y : List ℤ) → Fits (own_sheet p) x y → x ≼ starts left'.table
   above_l x y f =
       half_above σ p.left.network p.right.network c.sound.left.lawful c.sound.right.lawful (sym c.sound.level) p.left.table right'.table row_l row_r'
       x y (row_of σ (own_sheet p).left x c.sound.left f.left_keeps) (row_of σ (own_sheet p).right y c.sound.right f.right_keeps)
-      (c.above can x y f).0 (above_r x y f) (≼-of-eq (p.left.network.arrivals x) (p.right.network.arrivals y) f.together)
+      (c.above can x y f).0 (above_r x y f) (≼_of_eq (p.left.network.arrivals x) (p.right.network.arrivals y) f.together)
 
   kept : ¬ (verdict (fallen left'.table || fallen right'.table) (unmoved p.left left' && unmoved p.right right') ≡ Impossible) → (fallen left'.table ≡ false) × (fallen right'.table ≡ false)
   kept n = or_false (fallen left'.table) (fallen right'.table) (verdict_possible _ (unmoved p.left left' && unmoved p.right right') n)

@@ -9,7 +9,7 @@ use Rattle.model.specs.Plans.{Model}
 use Rattle.model.specs.Sheets.{Side, Sheet, new_sheet, own_sheet, fresh, Greatest, put_ceiling, put_floor, put_both, rewrite_at, put_network, put_ceilings}
 use Rattle.model.specs.Calls.{lower_bench, raise_bench, lowered, raised, adopted, Lowered, Raised, Loosened, Exchanged, Advanced, Adopted}
 use Rattle.model.specs.Runs.{Reading, Call, lower, raise, loosen, exchange, advance, adopt, reading, Reply, done, turned_away, advanced, state_is, slack_is, window_is, starts_are, reply, Does, History, found, ◌then◌, Takes, Writes, SheetOf, Offers, Run, founds, goes_on, Enough, Granted, Law}
-use Rattle.model.proofs.Order.{≼-antisym}
+use Rattle.model.proofs.Order.{≼_antisym}
 use Rattle.model.proofs.Invariant.{Core, Good, lefts, rights, core_greatest, fresh_core, fresh_sheet, decided_state, other_state, step_of}
 use Rattle.model.proofs.Round.{rounds_sheet, rounds_good, advance_decides}
 use Rattle.model.proofs.Accepted.{lower_accepted, raise_accepted, loosen_accepted, exchange_accepted, found_accepted}
@@ -21,7 +21,7 @@ pub greatest_unique : (s : Sheet) (x y x' y' : List ℤ) → Greatest s x y → 
 greatest_unique s x y x' y' g g' =
     let up = g'.highest x y g.fits in
     let down = g.highest x' y' g'.fits in
-    (≼-antisym x x' up.0 down.0, ≼-antisym y y' up.1 down.1)
+    (≼_antisym x x' up.0 down.0, ≼_antisym y y' up.1 down.1)
 
 takes_unique : (s : Sheet) (c : Call) (t t' : Sheet) → Takes s c t → Takes s c t' → t ≡ t'
 takes_unique s (lower side i v) t t' h k = h ∙ sym k

@@ -10,7 +10,7 @@ use Rattle.model.specs.Plans.{starts, cut, fallen, spare, same_number, same_list
 use Rattle.model.specs.declared.Window.{Window}
 use Rattle.model.specs.Sheets.{Keeps, window, windows, fresh_bench, alter, put_ceiling, put_floor, put_both, under}
 use Rattle.model.specs.Calls.{lower_bench, raise_bench, adopt_bench}
-use Rattle.scale.proofs.Integers.{≤-refl, ≤_trans, min_left, min_right, min_above}
+use Rattle.scale.proofs.Integers.{≤_refl, ≤_trans, min_left, min_right, min_above}
 use Rattle.model.proofs.Order.{≼_refl, same_number_false, and_false, or_true, or_false, same_list_same, true_not_false}
 
 -- every window lies in the range, its floor at most its ceiling
@@ -97,8 +97,8 @@ less_start : (s m f r r' : ℤ) → m ≤ℤ s → r' ≤ℤ r → ((m -ℤ f) +
 less_start s m f r r' h k = omega (arith, ints)
 
 pub cut_spare : (bs : List Bench) (v : List ℤ) → spare (cut bs v) ≤ℤ spare bs
-cut_spare [] v = ≤-refl (pos 0)
-cut_spare (b ∷ bs) [] = ≤-refl (spare (b ∷ bs))
+cut_spare [] v = ≤_refl (pos 0)
+cut_spare (b ∷ bs) [] = ≤_refl (spare (b ∷ bs))
 cut_spare (b ∷ bs) (a ∷ v) = less_start b.start (int_min b.start a) b.floor (spare bs) (spare (cut bs v)) (min_left _ _) (cut_spare bs v)
 
 fell_here : (s m f r r' : ℤ) → m ≤ℤ s → ¬ (s ≡ m) → r' ≤ℤ r → ((m -ℤ f) +ℤ r') <ℤ ((s -ℤ f) +ℤ r)
@@ -121,7 +121,7 @@ add_spare : (s f r : ℤ) → f ≤ℤ s → pos 0 ≤ℤ r → pos 0 ≤ℤ ((s
 add_spare s f r h k = omega (arith, ints)
 
 pub keeps_spare : (bs : List Bench) → Keeps (windows bs) (starts bs) → pos 0 ≤ℤ spare bs
-keeps_spare [] h = ≤-refl (pos 0)
+keeps_spare [] h = ≤_refl (pos 0)
 keeps_spare (b ∷ bs) h = add_spare b.start b.floor (spare bs) h.0 (keeps_spare bs h.2)
 
 -- ---- a fresh start
@@ -132,7 +132,7 @@ fresh_windows (w ∷ ws) = ap (λ (r : List Window). w ∷ r) (fresh_windows ws)
 
 pub fresh_keeps : (σ : Algebra) (ws : List Window) → Proper σ ws → Keeps ws (starts (map fresh_bench ws))
 fresh_keeps σ [] p = tt
-fresh_keeps σ (w ∷ ws) p = (p.1, ≤-refl w.ceiling, fresh_keeps σ ws p.3)
+fresh_keeps σ (w ∷ ws) p = (p.1, ≤_refl w.ceiling, fresh_keeps σ ws p.3)
 
 pub fresh_above : (ws : List Window) (x : List ℤ) → Keeps ws x → x ≼ starts (map fresh_bench ws)
 fresh_above [] [] h = tt
@@ -241,7 +241,7 @@ adopt_proper σ (b ∷ bs) h p = (p.0, h.0, ≤_trans _ _ _ h.1 p.2, adopt_prope
 
 pub adopt_keeps : (bs : List Bench) → Keeps (windows bs) (starts bs) → Keeps (under (starts bs) (windows bs)) (starts bs)
 adopt_keeps [] h = tt
-adopt_keeps (b ∷ bs) h = (h.0, ≤-refl b.start, adopt_keeps bs h.2)
+adopt_keeps (b ∷ bs) h = (h.0, ≤_refl b.start, adopt_keeps bs h.2)
 
 pub adopt_wider : (bs : List Bench) (x : List ℤ) → Keeps (windows bs) (starts bs) → Keeps (under (starts bs) (windows bs)) x → Keeps (windows bs) x
 adopt_wider [] x h k = k

@@ -28,13 +28,13 @@ fn read_limits(
     cursor: &mut Cursor,
     bounds: Bounds,
     byte: usize,
-    has_floor: bool,
-    has_ceiling: bool,
+    with_floor: bool,
+    with_ceiling: bool,
 ) -> Result<Window, ByteFault>
-    ensures { Reads (limits_of bounds byte has_floor has_ceiling) cursor.old cursor.new (λ w. w) result }
+    ensures { Reads (limits_of bounds byte with_floor with_ceiling) cursor.old cursor.new (λ w. w) result }
 {
-    let floor = read_limit(cursor, has_floor, bounds, lowest_floor(bounds))?;
-    let ceiling = read_limit(cursor, has_ceiling, bounds, highest_ceiling(bounds))?;
+    let floor = read_limit(cursor, with_floor, bounds, lowest_floor(bounds))?;
+    let ceiling = read_limit(cursor, with_ceiling, bounds, highest_ceiling(bounds))?;
     in_order(floor, ceiling, byte)
 }
 

@@ -3,14 +3,14 @@ use Rattle.std.proofs.Common.{◌≡◌, ℤ, ◌≤ℤ◌, ◌<ℤ◌, arith}
 use Rattle.std.specs.Int.{int_max, int_min}
 use Rattle.std.proofs.lemmas.Int.{ints, clamps, by_lt_z}
 
-pub ≤-refl : (a : ℤ) → a ≤ℤ a
-≤-refl a = omega (arith, ints)
+pub ≤_refl : (a : ℤ) → a ≤ℤ a
+≤_refl a = omega (arith, ints)
 
 pub ≤_trans : (a b c : ℤ) → a ≤ℤ b → b ≤ℤ c → a ≤ℤ c
 ≤_trans a b c h k = omega (arith, ints)
 
-pub ≤-antisym : (a b : ℤ) → a ≤ℤ b → b ≤ℤ a → a ≡ b
-≤-antisym a b h k = omega (arith, ints)
+pub ≤_antisym : (a b : ℤ) → a ≤ℤ b → b ≤ℤ a → a ≡ b
+≤_antisym a b h k = omega (arith, ints)
 
 pub not_lt : (a b : ℤ) → ¬ (a <ℤ b) → b ≤ℤ a
 not_lt a b h = by_lt_z a b (λ l. absurd (h l)) (λ l. l)

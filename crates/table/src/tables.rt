@@ -1,5 +1,5 @@
 // Asking a table.
-ghost use Rattle.std.specs.Prelude.{◌≡◌, ◌<◌, ◌&&◌, ltb, if◌then◌else◌, None, nat_lt};
+ghost use Rattle.std.specs.Prelude.{◌≡◌, ◌<◌, ◌&&◌, if◌then◌else◌, None, nat_lt};
 ghost use Rattle.table.specs.Cells.{cell_of, table_of};
 ghost use Rattle.table.specs.TableLaw.{table_lawful};
 
@@ -11,7 +11,7 @@ use scale::Scale;
 impl<S> Table<S> {
     // The coefficient of a station and a bench, none where there is no such place.
     pub fn cell(&self, station: usize, bench: usize) -> Option<i32>
-        ensures { result ≡ (if ltb station self.now.stations && nat_lt bench self.now.benches then cell_of self.now station bench else None) }
+        ensures { result ≡ (if nat_lt station self.now.stations && nat_lt bench self.now.benches then cell_of self.now station bench else None) }
     {
         if station < self.stations && bench < self.benches {
             self.at_place(station, bench)
