@@ -5,34 +5,34 @@ use Rattle.std.proofs.lemmas.Int.{ints}
 use Rattle.scale.specs.Algebra.{LawfulScale, Value, Coefficient}
 use Rattle.scale.specs.Grades.{grades, grades_product, grades_quotient}
 
-product_value : (a : Option ℤ) (x : ℤ) → Coefficient grades a → Value grades x → Value grades (grades_product a x)
-product_value None x c v =
+grades_product_value : (a : Option ℤ) (x : ℤ) → Coefficient grades a → Value grades x → Value grades (grades_product a x)
+grades_product_value None x c v =
     let l = v.above in
     let h = v.below in
     record { above = grind (arith, ints); below = grind (arith, ints) }
-product_value (Some a) x c v =
-    let l = v.above in
-    let h = v.below in
-    record { above = grind (arith, ints); below = grind (arith, ints) }
-
-quotient_value : (a : Option ℤ) (b : ℤ) → Coefficient grades a → Value grades b → Value grades (grades_quotient a b)
-quotient_value None b c v =
-    let l = v.above in
-    let h = v.below in
-    record { above = grind (arith, ints); below = grind (arith, ints) }
-quotient_value (Some a) b c v =
+grades_product_value (Some a) x c v =
     let l = v.above in
     let h = v.below in
     record { above = grind (arith, ints); below = grind (arith, ints) }
 
-residuated : (a : Option ℤ) (x b : ℤ) → Coefficient grades a → Value grades x → Value grades b → (grades_product a x ≤ℤ b) ↔ (x ≤ℤ grades_quotient a b)
-residuated None x b c v w =
+grades_quotient_value : (a : Option ℤ) (b : ℤ) → Coefficient grades a → Value grades b → Value grades (grades_quotient a b)
+grades_quotient_value None b c v =
+    let l = v.above in
+    let h = v.below in
+    record { above = grind (arith, ints); below = grind (arith, ints) }
+grades_quotient_value (Some a) b c v =
+    let l = v.above in
+    let h = v.below in
+    record { above = grind (arith, ints); below = grind (arith, ints) }
+
+grades_residuated : (a : Option ℤ) (x b : ℤ) → Coefficient grades a → Value grades x → Value grades b → (grades_product a x ≤ℤ b) ↔ (x ≤ℤ grades_quotient a b)
+grades_residuated None x b c v w =
     let vl = v.above in
     let vh = v.below in
     let wl = w.above in
     let wh = w.below in
     ((λ e. grind (arith, ints)), (λ e. grind (arith, ints)))
-residuated (Some a) x b c v w =
+grades_residuated (Some a) x b c v w =
     let vl = v.above in
     let vh = v.below in
     let wl = w.above in
@@ -49,7 +49,7 @@ grades_lawful = record {
   greatest_window = record { above = omega (arith, ints); below = omega (arith, ints) };
   absent_product = λ x v. let l = v.above in let h = v.below in grind (arith, ints);
   absent_quotient = λ b v. let l = v.above in let h = v.below in grind (arith, ints);
-  product_value = product_value;
-  quotient_value = quotient_value;
-  residuated = residuated;
+  product_value = grades_product_value;
+  quotient_value = grades_quotient_value;
+  residuated = grades_residuated;
 }
