@@ -1,42 +1,34 @@
 -- Fit grades keep the law of scales. Assumes nothing.
-use Rattle.std.specs.Prelude.{◌↔◌, ℤ, ◌≤ℤ◌, Some, None, Option}
+use Rattle.std.specs.Prelude.{◌↔◌, cond, ℤ, pos, ◌≤ℤ◌, Some, None, Option, int_le}
+use Rattle.std.specs.Int.{int_min}
+use Rattle.std.specs.Option.{unwrap_or}
 use Rattle.std.proofs.Common.{arith}
 use Rattle.std.proofs.lemmas.Int.{ints}
 use Rattle.scale.specs.Algebra.{LawfulScale, Value, Coefficient}
-use Rattle.scale.specs.Grades.{grades, grades_product, grades_quotient}
+use Rattle.scale.specs.Grades.{grades}
 
-grades_product_value : (a : Option ℤ) (x : ℤ) → Coefficient grades a → Value grades x → Value grades (grades_product a x)
-grades_product_value None x c v =
-    let l = v.above in
-    let h = v.below in
-    record { above = grind (arith, ints); below = grind (arith, ints) }
-grades_product_value (Some a) x c v =
-    let l = v.above in
-    let h = v.below in
-    record { above = grind (arith, ints); below = grind (arith, ints) }
+-- ---- of the coefficient only what it is worth matters, 0 where it is absent
 
-grades_quotient_value : (a : Option ℤ) (b : ℤ) → Coefficient grades a → Value grades b → Value grades (grades_quotient a b)
-grades_quotient_value None b c v =
-    let l = v.above in
-    let h = v.below in
-    record { above = grind (arith, ints); below = grind (arith, ints) }
-grades_quotient_value (Some a) b c v =
-    let l = v.above in
-    let h = v.below in
-    record { above = grind (arith, ints); below = grind (arith, ints) }
+worth : (a : Option ℤ) → Coefficient grades a → pos 0 ≤ℤ unwrap_or a (pos 0)
+worth None c = omega (arith, ints)
+worth (Some a) c = c.0
 
-grades_residuated : (a : Option ℤ) (x b : ℤ) → Coefficient grades a → Value grades x → Value grades b → (grades_product a x ≤ℤ b) ↔ (x ≤ℤ grades_quotient a b)
-grades_residuated None x b c v w =
+smaller_value : (m x : ℤ) → pos 0 ≤ℤ m → Value grades x → Value grades (int_min m x)
+smaller_value m x l v =
     let vl = v.above in
     let vh = v.below in
-    let wl = w.above in
-    let wh = w.below in
-    ((λ e. grind (arith, ints)), (λ e. grind (arith, ints)))
-grades_residuated (Some a) x b c v w =
+    record { above = grind (arith, ints); below = grind (arith, ints) }
+
+finest_or_value : (m b : ℤ) → Value grades b → Value grades (cond (int_le m b) (pos 15) b)
+finest_or_value m b v =
     let vl = v.above in
     let vh = v.below in
-    let wl = w.above in
-    let wh = w.below in
+    record { above = grind (arith, ints); below = grind (arith, ints) }
+
+smaller_residuated : (m x b : ℤ) → Value grades x → (int_min m x ≤ℤ b) ↔ (x ≤ℤ cond (int_le m b) (pos 15) b)
+smaller_residuated m x b v =
+    let vl = v.above in
+    let vh = v.below in
     ((λ e. grind (arith, ints)), (λ e. grind (arith, ints)))
 
 pub grades_lawful : LawfulScale grades
@@ -47,9 +39,9 @@ grades_lawful = record {
   greatest_coefficient_limit = omega (arith, ints);
   least_window = record { above = omega (arith, ints); below = omega (arith, ints) };
   greatest_window = record { above = omega (arith, ints); below = omega (arith, ints) };
-  absent_product = λ x v. let l = v.above in let h = v.below in grind (arith, ints);
-  absent_quotient = λ b v. let l = v.above in let h = v.below in grind (arith, ints);
-  product_value = grades_product_value;
-  quotient_value = grades_quotient_value;
-  residuated = grades_residuated;
+  absent_product = λ x v. let l = v.above in grind (arith, ints);
+  absent_quotient = λ b v. let l = v.above in grind (arith, ints);
+  product_value = λ a x c v. smaller_value (unwrap_or a (pos 0)) x (worth a c) v;
+  quotient_value = λ a b c v. finest_or_value (unwrap_or a (pos 0)) b v;
+  residuated = λ a x b c v w. smaller_residuated (unwrap_or a (pos 0)) x b v;
 }
