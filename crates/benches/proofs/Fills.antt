@@ -1,19 +1,44 @@
--- A map in place, turn by turn. Assumes nothing.
-use Rattle.std.proofs.Common.{◌≡◌, ℕ, ◌+◌, ◌<◌, ◌≤◌, List, ◌++◌, map, length, get_or, take, drop, set, ℤ, pos, ◌+ℤ◌, ◌-ℤ◌, sym, ap, ◌∙◌, ap₂, arith}
+-- A list that is rewritten in place, and a sum, turn by turn. Assumes nothing.
+use Rattle.std.proofs.Common.{◌≡◌, ℕ, ◌+◌, ◌<◌, ◌≤◌, List, [], ◌∷◌, ◌++◌, map, length, get_or, take, drop, set, ℤ, pos, ◌+ℤ◌, ◌-ℤ◌, sym, refl, ap, subst, ◌∙◌, ap₂, arith}
 use Rattle.std.proofs.lemmas.Int.{ints}
-use Rattle.std.proofs.lemmas.List.{append-nil, take_all, drop_all, get_or_default, at_drop_more, at_drop_all}
-use Rattle.std.proofs.lemmas.List.Edits.{map_over_more}
-use Rattle.model.specs.declared.Bench.{Bench}
+use Rattle.std.proofs.lemmas.List.{append-nil, take_all, drop_all, at_drop_more, at_drop_all}
+use native.Mathlib.Numerals.{unary_clauses}
+use Rattle.std.specs.List.{AllZip, refill}
+use Rattle.std.proofs.lemmas.List.{length-set, drop-set-lt, take_more_set, get_or-drop, get_or_default, length-map}
+use Rattle.std.proofs.lemmas.Grind.{drop_more_same}
+use Rattle.std.proofs.lemmas.List.Elements.{all_zip_more}
+use Rattle.model.specs.declared.bench.Bench.{Bench}
 use Rattle.model.specs.Plans.{spare}
 use Rattle.model.specs.Calls.{no_bench}
 
-pub fill_more : (f : Bench → Bench) (xs ys : List Bench) (i : ℕ) (row : Bench) → i < length xs → length ys ≡ length xs → ys ≡ map f (take i xs) ++ drop i xs → row ≡ f (get_or ys i no_bench) →
-    set ys i row ≡ map f (take (i + 1) xs) ++ drop (i + 1) xs
-fill_more f xs ys i row l e inv r =
-    ap (set ys i) r ∙ map_over_more f xs ys i (get_or ys i no_bench) l inv (get_or_default ys i no_bench (get_or ys i no_bench) (omega arith))
+-- one place more of a list whose elements are rewritten in their order
+pub rewrite_more : {A : Type 0} (R : A → A → Type 0) (xs ys : List A) (i : ℕ) (d y : A) → i < length xs → length ys ≡ length xs →
+    drop i ys ≡ drop i xs → AllZip R (take i xs) (take i ys) → R (get_or ys i d) y →
+    (length (set ys i y) ≡ length xs) × (drop (i + 1) (set ys i y) ≡ drop (i + 1) xs) × AllZip R (take (i + 1) xs) (take (i + 1) (set ys i y))
+rewrite_more {A} R xs ys i d y h e same inv r =
+    let here : get_or ys i d ≡ get_or xs i d = simp unary_clauses at (sym (get_or-drop i ys 0 d) ∙ ap (λ (zs : List A). get_or zs 0 d) same ∙ get_or-drop i xs 0 d) in
+    let x = get_or xs i d in
+    let l : i < length ys = omega arith in (
+      length-set ys i y ∙ e,
+      drop-set-lt (i + 1) ys i y (omega arith) ∙ drop_more_same ys xs i same,
+      subst (AllZip R (take (i + 1) xs)) (sym (take_more_set ys i y l))
+          (all_zip_more R xs (take i ys) i x y h (get_or_default xs i d x h) inv (subst (λ (z : A). R z y) here r)),
+    )
 
-pub fill_all : (f : Bench → Bench) (xs ys : List Bench) (i : ℕ) → length xs ≤ i → ys ≡ map f (take i xs) ++ drop i xs → ys ≡ map f xs
-fill_all f xs ys i l inv = inv ∙ ap₂ ◌++◌ (ap (map f) (take_all i xs l)) (drop_all i xs l) ∙ append-nil (map f xs)
+-- the whole list, where each element became what f makes of it
+made : {A : Type 0} (R : A → A → Type 0) (f : A → A) → ((x y : A) → R x y → y ≡ f x) → (xs ys : List A) → AllZip R xs ys → ys ≡ map f xs
+made R f h [] [] z = refl
+made R f h [] (y ∷ ys) z = absurd z
+made R f h (x ∷ xs) [] z = absurd z
+made R f h (x ∷ xs) (y ∷ ys) z = ap₂ ◌∷◌ (h x y z.0) (made R f h xs ys z.1)
+
+pub rewritten : {A : Type 0} (R : A → A → Type 0) (f : A → A) → ((x y : A) → R x y → y ≡ f x) → (rows xs ys : List A) → xs ≡ rows → AllZip R xs ys →
+    refill (length rows) rows ys ≡ map f rows
+rewritten {A} R f h rows xs ys e z =
+    let m : ys ≡ map f rows = made R f h xs ys z ∙ ap (map f) e in
+    let l : length ys ≡ length rows = ap (λ (zs : List A). length zs) m ∙ length-map rows f in
+    ap (λ (zs : List A). take (length rows) (ys ++ zs)) (drop_all (length ys) rows (omega (arith, l)))
+    ∙ ap (take (length rows)) (append-nil ys) ∙ take_all (length rows) ys (omega (arith, l)) ∙ m
 
 -- ---- a sum
 

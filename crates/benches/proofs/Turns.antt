@@ -1,38 +1,21 @@
 -- The loops over bench records, turn by turn. Assumes nothing.
-use Rattle.std.proofs.Common.{◌≡◌, ℕ, zero, suc, ◌+◌, ◌<◌, ◌≤◌, Bool, true, false, cond, ◌||◌, List, [], ◌∷◌, length, get_or, take, drop, set, ℤ, pos, negsuc, sym, refl, ap, ◌∙◌, subst, add-one, arith, ne_eqb}
+use Rattle.std.proofs.Common.{◌≡◌, ℕ, zero, suc, ◌+◌, ◌<◌, Bool, true, false, cond, List, [], ◌∷◌, length, get_or, take, set, ℤ, pos, sym, refl, ap, ◌∙◌, subst, add-one, arith}
 use lib.Signed.{lt_z}
 use Rattle.std.specs.Int.{int_min}
 use Rattle.std.proofs.lemmas.Int.{ints}
-use Rattle.std.proofs.lemmas.Bool.{and_left, and_right, or_left}
-use Rattle.std.proofs.lemmas.List.{at_drop_more, at_drop_all}
-use Rattle.model.specs.declared.Bench.{Bench}
-use Rattle.model.specs.Plans.{same_number, same_list}
-use Rattle.model.specs.Plans.{starts, cut, fallen}
+use Rattle.std.specs.Ordering.{int_eq}
+use Rattle.std.proofs.lemmas.Bool.{and_left, and_right, false_from_ne_true}
+use Rattle.std.proofs.lemmas.Bool.Decides.{Decides-int_eq}
+use Rattle.model.specs.declared.bench.Bench.{Bench}
+use Rattle.model.specs.Plans.{same_list}
+use Rattle.model.specs.Plans.{starts, cut}
 use Rattle.model.specs.Calls.{no_bench}
 use Rattle.model.proofs.Order.{same_list_same}
 
--- ---- fallen
-
-pub fallen_here : (rows : List Bench) (i : ℕ) → i < length rows → lt_z (get_or rows i no_bench).start (get_or rows i no_bench).floor ≡ true → fallen (drop i rows) ≡ fallen rows → true ≡ fallen rows
-fallen_here rows i l t inv =
-    let e = at_drop_more fallen rows i no_bench l in
-    sym (or_left (lt_z (get_or rows i no_bench).start (get_or rows i no_bench).floor) (fallen (drop (i + 1) rows)) t) ∙ sym e ∙ inv
-
-pub fallen_next : (rows : List Bench) (i : ℕ) → i < length rows → lt_z (get_or rows i no_bench).start (get_or rows i no_bench).floor ≡ false → fallen (drop i rows) ≡ fallen rows → fallen (drop (i + 1) rows) ≡ fallen rows
-fallen_next rows i l t inv =
-    let e = at_drop_more fallen rows i no_bench l in
-    sym (ap (λ (b : Bool). b || fallen (drop (i + 1) rows)) t) ∙ sym e ∙ inv
-
-pub fallen_all : (rows : List Bench) (i : ℕ) → length rows ≤ i → fallen (drop i rows) ≡ fallen rows → false ≡ fallen rows
-fallen_all rows i l inv = sym (at_drop_all fallen rows i l) ∙ inv
-
 -- ---- cut
 
-same_number_apart : (a b : ℤ) → (a ≡ b → ⊥) → same_number a b ≡ false
-same_number_apart (pos a) (pos b) h = ne_eqb a b (λ e. h (ap pos e))
-same_number_apart (pos a) (negsuc b) h = refl
-same_number_apart (negsuc a) (pos b) h = refl
-same_number_apart (negsuc a) (negsuc b) h = ne_eqb a b (λ e. h (ap negsuc e))
+same_number_apart : (a b : ℤ) → (a ≡ b → ⊥) → int_eq a b ≡ false
+same_number_apart a b h = false_from_ne_true (int_eq a b) (λ e. h ((Decides-int_eq a b).0 e))
 
 below_apart : (a b : ℤ) → lt_z b a ≡ true → a ≡ b → ⊥
 below_apart a b t e = grind (arith, ints)
@@ -55,7 +38,7 @@ cut_falls (b ∷ es) [] i e l t = absurd (omega arith)
 cut_falls (b ∷ es) (v ∷ vs) zero e l t =
     let m : int_min b.start v ≡ v = cond_of (lt_z v b.start) v b.start t in (
       ap (λ (z : ℤ). lowered b z ∷ es) (sym m) ∙ ap (λ (r : List Bench). lowered b (int_min b.start v) ∷ r) (sym (cut_nil es)),
-      sym (and_left (same_number b.start (int_min b.start v)) (same_list (starts es) (starts (cut es []))) (ap (same_number b.start) m ∙ same_number_apart b.start v (below_apart b.start v t))),
+      sym (and_left (int_eq b.start (int_min b.start v)) (same_list (starts es) (starts (cut es []))) (ap (int_eq b.start) m ∙ same_number_apart b.start v (below_apart b.start v t))),
     )
   where
     cut_nil : (bs : List Bench) → cut bs [] ≡ bs
@@ -64,7 +47,7 @@ cut_falls (b ∷ es) (v ∷ vs) zero e l t =
 cut_falls (b ∷ es) (v ∷ vs) (suc i) e l t =
     let r = cut_falls es vs i (omega arith) (omega arith) t in (
       ap (λ (z : List Bench). lowered b (int_min b.start v) ∷ z) r.0,
-      sym (and_right (same_number b.start (int_min b.start v)) (same_list (starts es) (starts (cut es (take (suc i) vs)))) (sym r.1)),
+      sym (and_right (int_eq b.start (int_min b.start v)) (same_list (starts es) (starts (cut es (take (suc i) vs)))) (sym r.1)),
     )
 
 cut_stays : (es : List Bench) (vs : List ℤ) (i : ℕ) → length es ≡ length vs → i < length es →

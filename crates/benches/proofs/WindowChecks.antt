@@ -4,7 +4,7 @@ use Rattle.std.proofs.lemmas.List.{at_drop_more, at_drop_all}
 use Rattle.scale.specs.Algebra.{Algebra}
 use Rattle.network.specs.Checks.{Answer, accepted, refused, Checked}
 use Rattle.network.proofs.InOrder.{more_checks, early_fault}
-use Rattle.model.specs.declared.Window.{Window}
+use Rattle.model.specs.declared.bench.Window.{Window}
 use Rattle.model.specs.Calls.{Told, window_check, window_checks}
 
 -- what is read past the last window

@@ -3,7 +3,7 @@ use Rattle.std.specs.Prelude.{◌≡◌, ℕ, List, length, ℤ, Ok, Err, Result
 use Rattle.network.specs.declared.refusal.Refusal.{Refusal}
 use Rattle.network.specs.Checks.{Answer, accepted, refused}
 use Rattle.network.specs.Refusals.{number}
-use Rattle.model.specs.declared.Bench.{Bench}
+use Rattle.model.specs.declared.bench.Bench.{Bench}
 use Rattle.model.specs.Plans.{starts}
 use Rattle.model.specs.Calls.{Told}
 use Rattle.benches.specs.declared.windows.Fault.{Fault}

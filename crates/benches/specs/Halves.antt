@@ -1,17 +1,26 @@
 -- Half a round, as the code makes it. Assumes nothing.
 use Rattle.std.specs.Prelude.{◌≡◌, Bool, List, length, ℤ, Ok, Err, Result, ◌≢◌}
+use Rattle.scale.specs.declared.scale.Scale.{Ghosts as ScaleGhosts}
+use Rattle.network.specs.declared.network.Network.{Ghosts as NetworkGhosts}
 use Rattle.network.specs.declared.refusal.Refusal.{Refusal}
 use Rattle.network.specs.Networks.{Meaning}
-use Rattle.model.specs.declared.Bench.{Bench}
-use Rattle.model.specs.Plans.{starts, cut, same_list}
+use Rattle.model.specs.Plans.{Hall as TheHall, starts, cut_by, unmoved}
+use Rattle.benches.specs.declared.hall.Hall.{Hall}
+
+-- what a hall of the code stands for: the meaning of its network, and its records
+abbrev pub hall : {N S : Type 0} {n : NetworkGhosts N S} {s : ScaleGhosts S} → Hall N S n s → TheHall
+hall {n = n} h = record { network = n.meaning h.network; table = h.benches }
 
 -- the latest starts of b at the arrivals of a with the starts x, unless a length is wrong
-abbrev pub Limited : {U : Type 0} → Meaning → Meaning → List ℤ → List ℤ → List ℤ → Result U Refusal → Type 0
-Limited a b x before after (Ok u) = after ≡ b.latest (a.arrivals x)
-Limited a b x before after (Err e) = length x ≡ a.benches → a.stations ≡ b.stations → length before ≢ b.benches
+abbrev pub LimitedBy : {U : Type 0} → Meaning → List ℤ → Meaning → List ℤ → List ℤ → Result U Refusal → Type 0
+LimitedBy a x b before after (Ok u) = after ≡ b.latest (a.arrivals x)
+LimitedBy a x b before after (Err e) = length x ≡ a.benches → a.stations ≡ b.stations → length before ≢ b.benches
 
--- where the sizes agree, the starts of `before` are cut by the arrivals of `lead` over a; `rests` says whether none changed
-abbrev pub CutBy : Meaning → List Bench → Meaning → List Bench → List Bench → Bool → Type 0
-CutBy a lead b before after rests =
-    length lead ≡ a.benches → a.stations ≡ b.stations → length before ≡ b.benches →
-    (after ≡ cut before (b.latest (a.arrivals (starts lead)))) × (rests ≡ same_list (starts before) (starts after))
+-- the same of the starts of a hall, which has as many as its network has benches
+abbrev pub Limited : {U : Type 0} → TheHall → Meaning → List ℤ → List ℤ → Result U Refusal → Type 0
+Limited a b before after (Ok u) = after ≡ b.latest (a.network.arrivals (starts a.table))
+Limited a b before after (Err e) = a.network.stations ≡ b.stations → length before ≢ b.benches
+
+-- where the stations agree, the hall is cut by the arrivals of the other; `rests` says whether no start changed
+abbrev pub CutBy : TheHall → TheHall → TheHall → Bool → Type 0
+CutBy other before after rests = other.network.stations ≡ before.network.stations → (after ≡ cut_by before other) × (rests ≡ unmoved before after)

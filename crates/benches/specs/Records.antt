@@ -1,13 +1,8 @@
 -- The records of a side's benches. Assumes nothing.
-use Rattle.std.specs.Prelude.{◌≡◌, ℕ, ◌<◌, ◌≤◌, List, length, take, Some, None, Option, slice_index_or}
-use Rattle.model.specs.declared.Bench.{Bench}
+use Rattle.std.specs.Prelude.{◌≡◌, ℕ, ◌<◌, ◌≤◌, List, length, Some, None, Option, slice_index_or}
+use Rattle.model.specs.declared.bench.Bench.{Bench}
 use Rattle.model.specs.Calls.{no_bench}
 use Rattle.model.specs.Sheets.{window, fresh_bench}
-use Rattle.benches.specs.declared.table.Benches.{Benches}
-
--- the first of the table's 32 records
-abbrev pub records : Benches → List Bench
-records b = take b.count b.rows
 
 -- a bench at a fresh start
 abbrev pub renew_bench : Bench → Bench

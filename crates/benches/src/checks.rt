@@ -27,7 +27,7 @@ pub fn check_ceiling<S: Scale>(state: State, b: Bench, ceiling: i32) -> Result<(
     }
 }
 
-// Whether a bench may have this floor: 7, 11, 8, 13.
+// Whether a bench may have this floor: 7, 11, 8, 13. What is compared with what differs from a ceiling throughout.
 pub fn check_floor<S: Scale>(state: State, b: Bench, floor: i32) -> Result<(), Refusal>
     ensures { Checked (floor_checks S.Scale.algebra state b floor) (answer result) }
 {
@@ -50,5 +50,5 @@ pub fn check_floor<S: Scale>(state: State, b: Bench, floor: i32) -> Result<(), R
 pub(crate) fn is_outside<S: Scale>(v: i32) -> bool
     ensures { MatchBool result (NotOfScale S.Scale.algebra v) (NotOfScale S.Scale.algebra v → ⊥) }
 {
-    v < S::NUMBERS.least_window() || S::NUMBERS.greatest_window() < v
+    v < S::LEAST_WINDOW || S::GREATEST_WINDOW < v
 }

@@ -1,69 +1,62 @@
-// Half a round.
+// Half a round. A network writes into a slice of room on the stack, since nothing here allocates.
 ghost use Rattle.std.specs.Prelude.{◌≡◌, length};
 ghost use Rattle.model.specs.Plans.{starts, cut, same_list};
-ghost use Rattle.benches.specs.Records.{records};
-ghost use Rattle.benches.specs.Halves.{Limited, CutBy};
+ghost use Rattle.benches.specs.Halves.{hall, LimitedBy, Limited, CutBy};
 
-use crate::rows::{cut_rows, write_starts};
+use crate::hall::Hall;
+use crate::rows::cut_rows;
 use crate::table::Benches;
 use network::{Network, Refusal};
 
-// Cuts the starts of `benches` to what the arrivals of the other side allow. Says whether none changed.
-pub fn cut_by<A: Network, B: Network<Over = A::Over>>(
-    leader: &A,
-    lead: &Benches,
-    follower: &B,
-    benches: &mut Benches,
-) -> bool
-    ensures { CutBy (A.Network.meaning leader.now) (records lead.now) (B.Network.meaning follower.now) (records benches.old) (records benches.new) result }
-{
-    let mut room = [0; 32];
-    let limits = &mut room[0..benches.count];
-    match limit(leader, lead, follower, limits) {
-        Ok(()) => benches.cut(limits),
-        Err(_) => false,
+impl<N: Network> Hall<N> {
+    // Cuts the starts to what the arrivals of the other side allow. Says whether none changed.
+    pub fn cut_by<M: Network<Over = N::Over>>(&mut self, other: &Hall<M>) -> bool
+        ensures cut { CutBy (hall other.now) (hall self.old) (hall self.new) result }
+        ensures network { self.new.network ≡ self.old.network }
+    {
+        let mut room = [0; 32];
+        let limits = &mut room[..self.benches.count()];
+        write_limits(other, &self.network, limits).is_ok() && self.benches.cut(limits)
     }
 }
 
-// Writes the latest starts of `follower` at which it arrives no later than `leader` with the starts of `lead`.
-fn limit<A: Network, B: Network<Over = A::Over>>(
-    leader: &A,
-    lead: &Benches,
-    follower: &B,
+// Writes the latest starts of `follower` at which it arrives no later than `leader` with its starts.
+fn write_limits<M: Network, N: Network<Over = M::Over>>(
+    leader: &Hall<M>,
+    follower: &N,
     out: &mut [i32],
 ) -> Result<(), Refusal>
-    ensures { Limited (A.Network.meaning leader.now) (B.Network.meaning follower.now) (starts (records lead.now)) out.old out.new result }
+    ensures { Limited (hall leader.now) (N.Network.meaning follower.now) out.old out.new result }
 {
     let mut room = [0; 32];
-    let from = &mut room[0..lead.count];
-    write_starts(&lead.rows[0..lead.count], from);
-    latest_at(leader, from, follower, out)
+    let starts = &mut room[..leader.benches.count()];
+    leader.benches.starts(starts)?;
+    latest_at(&leader.network, starts, follower, out)
 }
 
 // Writes the latest starts of `follower` at which it arrives no later than `leader` with these starts.
-fn latest_at<A: Network, B: Network<Over = A::Over>>(
-    leader: &A,
+fn latest_at<M: Network, N: Network<Over = M::Over>>(
+    leader: &M,
     starts: &[i32],
-    follower: &B,
+    follower: &N,
     out: &mut [i32],
 ) -> Result<(), Refusal>
-    ensures { Limited (A.Network.meaning leader.now) (B.Network.meaning follower.now) starts.now out.old out.new result }
+    ensures { LimitedBy (M.Network.meaning leader.now) starts.now (N.Network.meaning follower.now) out.old out.new result }
 {
-    let size = leader.stations();
     let mut room = [0; 32];
-    let v = &mut room[0..size];
-    leader.arrivals(starts, v)?;
-    follower.latest(v, out)
+    let arrivals = &mut room[..leader.stations()];
+    leader.arrivals(starts, arrivals)?;
+    follower.latest(arrivals, out)
 }
 
 impl Benches {
     // Each start becomes the smaller of itself and its limit. Says whether none changed.
     fn cut(&mut self, limits: &[i32]) -> bool
-        requires { length (records self.old) ≡ length limits.now }
-        ensures table { records self.new ≡ cut (records self.old) limits.now }
-        ensures rests { result ≡ same_list (starts (records self.old)) (starts (records self.new)) }
+        requires { length self.old ≡ length limits.now }
+        ensures table { self.new ≡ cut self.old limits.now }
+        ensures count { length self.new ≡ length self.old }
+        ensures rests { result ≡ same_list (starts self.old) (starts self.new) }
     {
-        let count = self.count;
-        cut_rows(&mut self.rows[0..count], limits)
+        cut_rows(self.rows.as_mut_slice(), limits)
     }
 }

@@ -3,6 +3,7 @@
 
 mod checks;
 mod half;
+mod hall;
 mod records;
 mod rows;
 mod table;
@@ -10,7 +11,7 @@ mod wider;
 mod windows;
 
 pub use checks::{check_ceiling, check_floor};
-pub use half::cut_by;
+pub use hall::Hall;
 pub use table::Benches;
 pub use wider::{check_wider, check_window_values};
 pub use windows::{Fault, check_windows};

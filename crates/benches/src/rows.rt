@@ -1,28 +1,19 @@
-// Loops over bench records.
-ghost use Rattle.std.specs.Prelude.{◌≡◌, ◌<◌, ◌≤◌, map, length, pos, ◌-ℤ◌, neg_ℤ, ◌≤ℤ◌, int_lt, slice_set};
-ghost use Rattle.model.specs.Plans.{starts, cut, fallen, spare, same_list};
-ghost use Rattle.model.specs.Calls.{adopt_bench};
-ghost use Rattle.benches.specs.Records.{renew_bench, Got};
+// Loops over bench records. An index stands where a list is written beside another: after a zip of `iter_mut` a proof knows none
+// of its values.
+ghost use Rattle.std.specs.Prelude.{◌≡◌, ◌≤◌, ◌^◌, length, pos, ◌-ℤ◌, neg_ℤ, ◌≤ℤ◌};
+ghost use Rattle.std.specs.List.{AllZip};
+ghost use Rattle.model.specs.Plans.{starts, cut, spare, same_list};
 
 use model::Bench;
 
-// The record at a place.
-pub(crate) fn row_at(rows: &[Bench], bench: usize) -> Option<Bench>
-    ensures { Got rows.now bench result }
+// Each record becomes what `f` makes of it.
+pub(crate) fn rewrite<F: Fn(Bench) -> Bench>(rows: &mut [Bench], f: F)
+    requires { F.IsAlwaysCallable f }
+    ensures { AllZip (F.post f) rows.old rows.new }
 {
-    if bench < rows.len() {
-        Some(rows[bench])
-    } else {
-        None
+    for b in rows.iter_mut() {
+        *b = f(*b);
     }
-}
-
-// Writes a record at a place.
-pub(crate) fn write_row(rows: &mut [Bench], bench: usize, row: Bench)
-    requires { bench < length rows.old }
-    ensures { rows.new ≡ slice_set rows.old bench row }
-{
-    rows[bench] = row;
 }
 
 // Writes the starts.
@@ -30,8 +21,8 @@ pub(crate) fn write_starts(rows: &[Bench], out: &mut [i32])
     requires { length rows.now ≡ length out.old }
     ensures { out.new ≡ starts rows.now }
 {
-    for i in 0..rows.len() {
-        out[i] = rows[i].start;
+    for (i, b) in rows.iter().enumerate() {
+        out[i] = b.start;
     }
 }
 
@@ -39,96 +30,38 @@ pub(crate) fn write_starts(rows: &[Bench], out: &mut [i32])
 pub(crate) fn cut_rows(rows: &mut [Bench], limits: &[i32]) -> bool
     requires { length rows.old ≡ length limits.now }
     ensures table { rows.new ≡ cut rows.old limits.now }
+    ensures count { length rows.new ≡ length rows.old }
     ensures rests { result ≡ same_list (starts rows.old) (starts rows.new) }
 {
     let mut rests = true;
-    for i in 0..rows.len() {
-        let limit = limits[i];
-        if limit < rows[i].start {
-            rows[i].start = limit;
+    for (i, limit) in limits.iter().enumerate() {
+        if *limit < rows[i].start {
+            rows[i].start = *limit;
             rests = false;
         }
     }
     rests
 }
 
-// Whether some start lies below its floor.
-pub(crate) fn any_fallen(rows: &[Bench]) -> bool
-    ensures { result ≡ fallen rows.now }
-{
-    for b in rows {
-        if is_below_floor(*b) {
-            return true;
-        }
-    }
-    false
-}
-
-fn is_below_floor(b: Bench) -> bool
-    ensures { result ≡ int_lt b.start b.floor }
-{
-    b.start < b.floor
-}
-
-// Every start at its ceiling.
-pub(crate) fn renew_rows(rows: &mut [Bench])
-    ensures { rows.new ≡ map renew_bench rows.old }
-{
-    for i in 0..rows.len() {
-        let row = renewed(rows[i]);
-        rows[i] = row;
-    }
-}
-
-fn renewed(b: Bench) -> Bench
-    ensures { result ≡ renew_bench b }
-{
-    Bench {
-        floor: b.floor,
-        ceiling: b.ceiling,
-        start: b.ceiling,
-    }
-}
-
-// Every ceiling at its start.
-pub(crate) fn adopt_rows(rows: &mut [Bench])
-    ensures { rows.new ≡ map adopt_bench rows.old }
-{
-    for i in 0..rows.len() {
-        let row = adopted(rows[i]);
-        rows[i] = row;
-    }
-}
-
-fn adopted(b: Bench) -> Bench
-    ensures { result ≡ adopt_bench b }
-{
-    Bench {
-        floor: b.floor,
-        ceiling: b.start,
-        start: b.start,
-    }
-}
-
 // The sum of start minus floor.
-pub(crate) fn spare_rows(rows: &[Bench]) -> i64
+pub(crate) fn sum_room(rows: &[Bench]) -> i64
     requires { length rows.now ≤ 32 }
     ensures value { result ≡ spare rows.now }
-    ensures low { neg_ℤ (pos 137438953472) ≤ℤ result }
-    ensures high { result ≤ℤ pos 137438953472 }
+    ensures low { neg_ℤ (pos (2 ^ 37)) ≤ℤ result }
+    ensures high { result ≤ℤ pos (2 ^ 37) }
 {
-    let mut sum: i64 = 0;
+    let mut sum = 0;
     for b in rows {
-        let room = room_of(*b);
-        sum += room;
+        sum += room(*b);
     }
     sum
 }
 
-fn room_of(b: Bench) -> i64
+// Start minus floor.
+fn room(b: Bench) -> i64
     ensures value { result ≡ b.start -ℤ b.floor }
-    ensures low { neg_ℤ (pos 4294967296) ≤ℤ result }
-    ensures high { result ≤ℤ pos 4294967296 }
+    ensures low { neg_ℤ (pos (2 ^ 32)) ≤ℤ result }
+    ensures high { result ≤ℤ pos (2 ^ 32) }
 {
-    b.start as i64 - b.floor as i64
+    i64::from(b.start) - i64::from(b.floor)
 }

@@ -1,13 +1,19 @@
-// A table of bench records.
-ghost use Rattle.std.specs.Prelude.{◌≡◌, ◌≤◌, length};
-
+// A side's bench records.
+use arrayvec::ArrayVec;
 use model::Bench;
+use std::marker::Model;
 
-// The first `count` of 32 records.
-#[derive(Clone, Copy)]
+// At most 32 records, seen as their list.
+#[derive(Clone, Debug, Drop)]
 pub struct Benches {
-    pub(crate) rows: [Bench; 32],
-    pub(crate) count: usize,
-    ghost few: { count ≤ 32 },
-    ghost full: { length rows ≡ 32 },
+    pub(crate) rows: ArrayVec<Bench, 32>,
+}
+
+impl Model for Benches {
+    ghost use Rattle.std.specs.Prelude.{List};
+    ghost use Rattle.model.specs.declared.bench.Bench.{Bench};
+
+    ghost Value = { List Bench };
+
+    ghost view = { λ b. b.rows.items };
 }

@@ -3,12 +3,13 @@ ghost use Rattle.network.specs.Checks.{Checked};
 ghost use Rattle.model.specs.Calls.{window_check, window_checks};
 ghost use Rattle.benches.specs.Answers.{window_answer};
 
+use crate::checks::is_outside;
 use model::{Place, Window};
 use network::Refusal;
 use scale::Scale;
 
 // Why a plan is not founded, and the bench that it is about.
-#[derive(Clone, Copy)]
+#[derive(Clone, Copy, Debug, PartialEq, Eq)]
 pub struct Fault {
     pub refusal: Refusal,
     pub place: Option<Place>,
@@ -18,33 +19,24 @@ pub struct Fault {
 pub fn check_windows<S: Scale>(side: usize, windows: &[Window]) -> Result<(), Fault>
     ensures { Checked (window_checks S.Scale.algebra side 0 windows.now) (window_answer result) }
 {
-    for i in 0..windows.len() {
-        check_window::<S>(side, i, windows[i])?;
+    for (bench, w) in windows.iter().enumerate() {
+        check_window::<S>(Place { side, bench }, *w)?;
     }
     Ok(())
 }
 
-fn check_window<S: Scale>(side: usize, bench: usize, w: Window) -> Result<(), Fault>
-    ensures { Checked (window_check S.Scale.algebra side bench w) (window_answer result) }
+fn check_window<S: Scale>(place: Place, w: Window) -> Result<(), Fault>
+    ensures { Checked (window_check S.Scale.algebra place.side place.bench w) (window_answer result) }
 {
-    let place = Some(Place { side, bench });
-    if w.floor < S::NUMBERS.least_window() || S::NUMBERS.greatest_window() < w.floor {
-        return Err(Fault {
-            refusal: Refusal::Window,
-            place,
-        });
-    }
-    if w.ceiling < S::NUMBERS.least_window() || S::NUMBERS.greatest_window() < w.ceiling {
-        return Err(Fault {
-            refusal: Refusal::Window,
-            place,
-        });
+    let fault = |refusal| Fault {
+        refusal,
+        place: Some(place),
+    };
+    if is_outside::<S>(w.floor) || is_outside::<S>(w.ceiling) {
+        return Err(fault(Refusal::Window));
     }
     if w.ceiling < w.floor {
-        return Err(Fault {
-            refusal: Refusal::Crossed,
-            place,
-        });
+        return Err(fault(Refusal::Crossed));
     }
     Ok(())
 }

@@ -47,12 +47,12 @@ fn quotients(rt: HostRuntime) {
 
 #[test]
 fn numbers(rt: HostRuntime) {
-    assert_eq!(rt; Grades::NUMBERS.lowest(), 0);
-    assert_eq!(rt; Grades::NUMBERS.highest(), 15);
-    assert_eq!(rt; Grades::NUMBERS.least_window(), 0);
-    assert_eq!(rt; Grades::NUMBERS.greatest_window(), 15);
-    assert_eq!(rt; Grades::NUMBERS.least_coefficient(), 0);
-    assert_eq!(rt; Grades::NUMBERS.greatest_coefficient(), 15);
+    assert_eq!(rt; Grades::LOWEST, 0);
+    assert_eq!(rt; Grades::HIGHEST, 15);
+    assert_eq!(rt; Grades::LEAST_WINDOW, 0);
+    assert_eq!(rt; Grades::GREATEST_WINDOW, 15);
+    assert_eq!(rt; Grades::LEAST_COEFFICIENT, 0);
+    assert_eq!(rt; Grades::GREATEST_COEFFICIENT, 15);
 }
 
 #[test]

@@ -8,4 +8,6 @@ mod minutes;
 #[cfg(test)]
 mod networks;
 #[cfg(test)]
+mod refusals;
+#[cfg(test)]
 mod tables;

@@ -74,12 +74,12 @@ fn quotients(rt: HostRuntime) {
 
 #[test]
 fn numbers(rt: HostRuntime) {
-    assert_eq!(rt; Minutes::NUMBERS.lowest(), VOID);
-    assert_eq!(rt; Minutes::NUMBERS.highest(), OPEN);
-    assert_eq!(rt; Minutes::NUMBERS.least_window(), -1_000_000);
-    assert_eq!(rt; Minutes::NUMBERS.greatest_window(), 1_000_000);
-    assert_eq!(rt; Minutes::NUMBERS.least_coefficient(), -1_000_000);
-    assert_eq!(rt; Minutes::NUMBERS.greatest_coefficient(), 1_000_000);
+    assert_eq!(rt; Minutes::LOWEST, VOID);
+    assert_eq!(rt; Minutes::HIGHEST, OPEN);
+    assert_eq!(rt; Minutes::LEAST_WINDOW, -1_000_000);
+    assert_eq!(rt; Minutes::GREATEST_WINDOW, 1_000_000);
+    assert_eq!(rt; Minutes::LEAST_COEFFICIENT, -1_000_000);
+    assert_eq!(rt; Minutes::GREATEST_COEFFICIENT, 1_000_000);
 }
 
 #[test]

@@ -1,8 +1,8 @@
 -- Whole lists of calls. Assumes nothing.
-use Rattle.std.proofs.Common.{◌≡◌, List, [], ◌∷◌, ◌++◌, length, sym, refl, ap, ◌∙◌, subst, append_assoc, append-nil, arith, length-append}
+use Rattle.std.proofs.Common.{◌≡◌, List, [], ◌∷◌, ◌++◌, length, sym, refl, subst, arith, length-append}
 use Rattle.scale.specs.Algebra.{Algebra, LawfulScale}
 use Rattle.network.specs.Networks.{Meaning, LawfulNetwork}
-use Rattle.model.specs.declared.Window.{Window}
+use Rattle.model.specs.declared.bench.Window.{Window}
 use Rattle.model.specs.Plans.{Model}
 use Rattle.model.specs.Calls.{Founded}
 use Rattle.model.specs.Runs.{Call, Reply, History, found, ◌then◌, Run, founds}
@@ -25,13 +25,6 @@ replay_more σ p q q' cs rs c r k s = record {
   each = let e = k.each in simp length-append (omega arith);
   leads = λ h run. subst (λ z. Run σ z q') (sym (after_push h cs rs c r k.each)) (s (after h cs rs) (k.leads h run));
 }
-
--- one call more of those that are left
-pub moved : (all done rest rest' : List Call) (c : Call) → all ≡ done ++ rest → rest ≡ c ∷ rest' → all ≡ (done ++ (c ∷ [])) ++ rest'
-moved all done rest rest' c e f = e ∙ ap (λ (z : List Call). done ++ z) f ∙ sym (append_assoc done (c ∷ []) rest')
-
-pub whole : (all done rest : List Call) → all ≡ done ++ rest → rest ≡ [] → done ≡ all
-whole all done rest e f = sym (e ∙ ap (λ (z : List Call). done ++ z) f ∙ append-nil done)
 
 -- the law over a plan from its founding on
 pub replayed : (σ : Algebra) → LawfulScale σ → (l r : Meaning) (lws rws : List Window) (p q : Model) (cs : List Call) (rs : List Reply) → LawfulNetwork σ l → LawfulNetwork σ r →

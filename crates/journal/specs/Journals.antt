@@ -1,17 +1,16 @@
 -- A plan from its founding on: whole lists of calls. Assumes nothing.
-use Rattle.std.specs.Prelude.{◌≡◌, List, [], ◌∷◌, map, length, Ok, Err, vec_items, Result, Vec}
-use Rattle.std.specs.VecDeque.{deque_items}
+use Rattle.std.specs.Prelude.{◌≡◌, List, [], ◌∷◌, map, length, Ok, Err, Result, Vec}
 use Rattle.std.specs.declared.alloc.Global.{Global}
 use Rattle.scale.specs.Algebra.{Algebra}
+use Rattle.scale.specs.declared.scale.Scale.{Ghosts as ScaleGhosts}
+use Rattle.network.specs.declared.network.Network.{Ghosts as NetworkGhosts}
 use Rattle.network.specs.Networks.{Meaning}
-use Rattle.network.specs.Checks.{refused, Checked}
-use Rattle.model.specs.declared.Window.{Window}
+use Rattle.model.specs.declared.bench.Window.{Window}
 use Rattle.model.specs.Plans.{Model}
-use Rattle.model.specs.Calls.{found_checks, Founded}
 use Rattle.model.specs.Runs.{Call as TheCall, Reply as TheReply, History, found, ◌then◌, Run, Lawful}
-use Rattle.benches.specs.Answers.{told}
 use Rattle.plan.specs.declared.plan.Plan.{Plan}
 use Rattle.plan.specs.Models.{model}
+use Rattle.plan.specs.Founding.{Founds}
 use Rattle.journal.specs.declared.replies.Reply.{Reply}
 use Rattle.journal.specs.declared.entries.Journal.{Journal}
 use Rattle.journal.specs.declared.unstarted.Unstarted.{Unstarted}
@@ -38,25 +37,21 @@ pub record Holds (σ : Algebra) (h : History) (q : Model) : Type 0 where
   pub law : Lawful run
 
 abbrev pub calls_of : {L R : Type 0} → (L → Meaning) → (R → Meaning) → Journal L R → List TheCall
-calls_of a b j = map (call_of a b) (deque_items j.calls)
+calls_of a b j = map (call_of a b) j.calls.items
 
 abbrev pub replies_of : {L R : Type 0} → Vec (Reply L R) Global → List TheReply
-replies_of v = map reply_of (vec_items v)
+replies_of v = map reply_of v.items
 
--- the first fault of founding, and everything back
-abbrev pub Unbegun : {L R : Type 0} → Algebra → (L → Meaning) → (R → Meaning) → L → R → List Window → List Window → Journal L R → Unstarted L R → Type 0
-Unbegun σ a b l r lws rws j u = Checked (found_checks σ (a l) (b r) lws rws) (refused (told u.fault)) × (u.left ≡ l) × (u.right ≡ r) × (u.journal ≡ j)
+-- what a replay of the journal j answers, over the networks l and r with these windows
+module _ {L R S : Type 0} {a : NetworkGhosts L S} {s : ScaleGhosts S} {b : NetworkGhosts R S} (l : L) (r : R) (lws rws : List Window) (j : Journal L R) where
+  -- the plan is founded, and the journal as it was; or the first fault of founding, and everything back
+  abbrev pub Begins : Result (Plan L R S a s b × Journal L R) (Unstarted L R) → Type 0
+  Begins (Ok u) = Founds l r lws rws (Ok u.0) × (u.1 ≡ j)
+  Begins (Err u) = Founds {a = a} {s = s} {b = b} l r lws rws (Err u.unfounded) × (u.journal ≡ j)
 
--- the plan is founded, and the journal as it was; or not
-abbrev pub Begins : {L R : Type 0} → Algebra → (L → Meaning) → (R → Meaning) → L → R → List Window → List Window → Journal L R →
-    Result (Plan L R × Journal L R) (Unstarted L R) → Type 0
-Begins σ a b l r lws rws j (Ok u) = Founded σ (a l) (b r) lws rws (model a b u.0) × (u.1 ≡ j)
-Begins σ a b l r lws rws j (Err u) = Unbegun σ a b l r lws rws j u
-
--- a reply for each call, and the law over the founding and these calls with these replies; or not founded
-abbrev pub Replays : {L R : Type 0} → Algebra → (L → Meaning) → (R → Meaning) → L → R → List Window → List Window → Journal L R →
-    Result (Plan L R × Vec (Reply L R) Global) (Unstarted L R) → Type 0
-Replays σ a b l r lws rws j (Ok u) =
-    (length (vec_items u.1) ≡ length (deque_items j.calls))
-    × Holds σ (after (found (a l) (b r) lws rws) (calls_of a b j) (replies_of u.1)) (model a b u.0)
-Replays σ a b l r lws rws j (Err u) = Unbegun σ a b l r lws rws j u
+  -- a reply for each call, and the law over the founding and these calls with these replies; or not founded
+  abbrev pub Replays : Result (Plan L R S a s b × Vec (Reply L R) Global) (Unstarted L R) → Type 0
+  Replays (Ok u) =
+      (length u.1.items ≡ length j.calls.items)
+      × Holds s.algebra (after (found (a.meaning l) (b.meaning r) lws rws) (calls_of a.meaning b.meaning j) (replies_of u.1)) (model u.0)
+  Replays (Err u) = Begins (Err u)

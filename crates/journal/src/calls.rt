@@ -1,35 +1,18 @@
 // A call on a plan, with its arguments.
+use model::{Place, Window};
+
 #[derive(Drop)]
 pub enum Call<L, R> {
-    Lower {
-        side: usize,
-        bench: usize,
-        ceiling: i32,
-    },
-    Raise {
-        side: usize,
-        bench: usize,
-        floor: i32,
-    },
-    Loosen {
-        side: usize,
-        bench: usize,
-        floor: i32,
-        ceiling: i32,
-    },
+    Lower { place: Place, ceiling: i32 },
+    Raise { place: Place, floor: i32 },
+    Loosen { place: Place, window: Window },
     ExchangeLeft(L),
     ExchangeRight(R),
     Advance(u64),
     Adopt,
     ReadState,
     ReadSlack,
-    ReadWindow {
-        side: usize,
-        bench: usize,
-    },
+    ReadWindow(Place),
     // Into two lists of these lengths.
-    ReadStarts {
-        lefts: usize,
-        rights: usize,
-    },
+    ReadStarts { lefts: usize, rights: usize },
 }

@@ -1,93 +1,40 @@
 // Carrying out one call.
-ghost use Rattle.std.specs.Prelude.{◌≡◌};
+ghost use Rattle.std.specs.Prelude.{◌≡◌, ◌<◌, OnErr, IfOk, IfErr};
+ghost use Rattle.arrayvec.specs.ArrayVec.{array_vec_len};
+ghost use Rattle.network.specs.Refusals.{number};
 ghost use Rattle.plan.specs.Models.{model};
-ghost use Rattle.journal.specs.declared.replies.Reply.TheVariants.{Done, WindowIs, StartsAre};
-ghost use Rattle.journal.specs.Calls.{call_of, reply_of, told_reply, left_reply, right_reply, HandsBack, StartsRead};
+ghost use Rattle.journal.specs.Calls.{call_of, reply_of, HandsBack, StartsRead};
 ghost use Rattle.journal.specs.Journals.{Stepped};
 
 use crate::calls::Call;
 use crate::replies::{Reply, Starts};
-use model::Window;
+use arrayvec::ArrayVec;
 use network::{Network, Refusal};
-use plan::{Plan, Unexchanged};
+use plan::Plan;
 
 // Carries out a call, and gives its whole answer.
 pub fn carry_out<L: Network, R: Network<Over = L::Over>>(
     plan: &mut Plan<L, R>,
     call: Call<L, R>,
 ) -> Reply<L, R>
-    ensures steps { Stepped L.Over.Scale.algebra (model L.Network.meaning R.Network.meaning plan.old) (call_of L.Network.meaning R.Network.meaning call) (reply_of result) (model L.Network.meaning R.Network.meaning plan.new) }
+    ensures steps { Stepped L.Over.Scale.algebra (model plan.old) (call_of L.Network.meaning R.Network.meaning call) (reply_of result) (model plan.new) }
     ensures back { HandsBack plan.old call result }
 {
     match call {
-        Call::Lower {
-            side,
-            bench,
-            ceiling,
-        } => replied(plan.lower(side, bench, ceiling)),
-        Call::Raise { side, bench, floor } => replied(plan.raise(side, bench, floor)),
-        Call::Loosen {
-            side,
-            bench,
-            floor,
-            ceiling,
-        } => replied(plan.loosen(side, bench, floor, ceiling)),
-        Call::ExchangeLeft(network) => left_back(plan.exchange_left(network)),
-        Call::ExchangeRight(network) => right_back(plan.exchange_right(network)),
+        Call::Lower { place, ceiling } => Reply::Changed(plan.lower(place, ceiling)),
+        Call::Raise { place, floor } => Reply::Changed(plan.raise(place, floor)),
+        Call::Loosen { place, window } => Reply::Changed(plan.loosen(place, window)),
+        Call::ExchangeLeft(network) => Reply::ExchangedLeft(plan.exchange_left(network)),
+        Call::ExchangeRight(network) => Reply::ExchangedRight(plan.exchange_right(network)),
         Call::Advance(grant) => {
             let (state, made) = plan.advance(grant);
             Reply::Advanced(state, made)
         }
-        Call::Adopt => replied(plan.adopt()),
+        Call::Adopt => Reply::Changed(plan.adopt()),
         Call::ReadState => Reply::StateIs(plan.state()),
         Call::ReadSlack => Reply::SlackIs(plan.slack()),
-        Call::ReadWindow { side, bench } => window_reply(plan.window(side, bench)),
-        Call::ReadStarts { lefts, rights } => starts_reply(read_starts(plan, lefts, rights)),
-    }
-}
-
-fn replied<L, R>(told: Result<(), Refusal>) -> Reply<L, R>
-    ensures { result ≡ told_reply (λ _. Done) told }
-{
-    match told {
-        Ok(()) => Reply::Done,
-        Err(refusal) => Reply::Refused(refusal),
-    }
-}
-
-fn left_back<L, R>(back: Result<L, Unexchanged<L>>) -> Reply<L, R>
-    ensures { result ≡ left_reply back }
-{
-    match back {
-        Ok(old) => Reply::LeftBack(old),
-        Err(refused) => Reply::LeftRefused(refused),
-    }
-}
-
-fn right_back<L, R>(back: Result<R, Unexchanged<R>>) -> Reply<L, R>
-    ensures { result ≡ right_reply back }
-{
-    match back {
-        Ok(old) => Reply::RightBack(old),
-        Err(refused) => Reply::RightRefused(refused),
-    }
-}
-
-fn window_reply<L, R>(told: Result<Window, Refusal>) -> Reply<L, R>
-    ensures { result ≡ told_reply WindowIs told }
-{
-    match told {
-        Ok(window) => Reply::WindowIs(window),
-        Err(refusal) => Reply::Refused(refusal),
-    }
-}
-
-fn starts_reply<L, R>(told: Result<Starts, Refusal>) -> Reply<L, R>
-    ensures { result ≡ told_reply StartsAre told }
-{
-    match told {
-        Ok(starts) => Reply::StartsAre(starts),
-        Err(refusal) => Reply::Refused(refusal),
+        Call::ReadWindow(place) => Reply::WindowIs(plan.window(place)),
+        Call::ReadStarts { lefts, rights } => Reply::StartsAre(read_starts(plan, lefts, rights)),
     }
 }
 
@@ -97,18 +44,24 @@ fn read_starts<L: Network, R: Network<Over = L::Over>>(
     left_count: usize,
     right_count: usize,
 ) -> Result<Starts, Refusal>
-    ensures { StartsRead (model L.Network.meaning R.Network.meaning plan.now) left_count right_count result }
+    ensures { StartsRead (model plan.now) left_count right_count result }
 {
-    if left_count > 32 || right_count > 32 {
+    let mut lefts = list_of(left_count)?;
+    let mut rights = list_of(right_count)?;
+    plan.starts(&mut lefts, &mut rights)?;
+    Ok(Starts { lefts, rights })
+}
+
+// A list of this length: 12.
+fn list_of(count: usize) -> Result<ArrayVec<i32, 32>, Refusal>
+    ensures size { IfOk result (λ list. array_vec_len list ≡ count) }
+    ensures long { OnErr result (32 < count) }
+    ensures told { IfErr result (λ e. number e ≡ 12) }
+{
+    let mut list = ArrayVec::from([0; 32]);
+    if count > list.len() {
         return Err(Refusal::Lengths);
     }
-    let mut lefts = [0; 32];
-    let mut rights = [0; 32];
-    plan.starts(&mut lefts[0..left_count], &mut rights[0..right_count])?;
-    Ok(Starts {
-        lefts,
-        left_count,
-        rights,
-        right_count,
-    })
+    list.truncate(count);
+    Ok(list)
 }

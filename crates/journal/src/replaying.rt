@@ -8,7 +8,7 @@ use crate::replies::Reply;
 use crate::unstarted::Unstarted;
 use model::Window;
 use network::Network;
-use plan::{Plan, Unfounded};
+use plan::Plan;
 
 // Founds a plan and carries out the calls of a journal in their order. The plan, and the reply to each call.
 pub fn replay<L: Network + Drop, R: Network<Over = L::Over> + Drop>(
@@ -18,16 +18,11 @@ pub fn replay<L: Network + Drop, R: Network<Over = L::Over> + Drop>(
     rights: &[Window],
     journal: Journal<L, R>,
 ) -> Result<(Plan<L, R>, Vec<Reply<L, R>>), Unstarted<L, R>>
-    ensures { Replays L.Over.Scale.algebra L.Network.meaning R.Network.meaning left right lefts.now rights.now journal result }
+    ensures { Replays left right lefts.now rights.now journal result }
 {
-    match begin(left, right, lefts, rights, journal) {
-        Err(unstarted) => Err(unstarted),
-        Ok((founded, begun)) => {
-            let mut plan = founded;
-            let replies = carry_out_all(&mut plan, begun);
-            Ok((plan, replies))
-        }
-    }
+    let (mut plan, journal) = begin(left, right, lefts, rights, journal)?;
+    let replies = carry_out_all(&mut plan, journal);
+    Ok((plan, replies))
 }
 
 // Founds the plan of a journal, or hands everything back.
@@ -38,16 +33,12 @@ fn begin<L: Network + Drop, R: Network<Over = L::Over> + Drop>(
     rights: &[Window],
     journal: Journal<L, R>,
 ) -> Result<(Plan<L, R>, Journal<L, R>), Unstarted<L, R>>
-    ensures { Begins L.Over.Scale.algebra L.Network.meaning R.Network.meaning left right lefts.now rights.now journal result }
+    ensures { Begins left right lefts.now rights.now journal result }
 {
+    // A `match`: both arms hand the journal on, and of two closures only one could own it.
     match Plan::found(left, right, lefts, rights) {
-        Err(Unfounded { fault, left, right }) => Err(Unstarted {
-            fault,
-            left,
-            right,
-            journal,
-        }),
         Ok(plan) => Ok((plan, journal)),
+        Err(unfounded) => Err(Unstarted { unfounded, journal }),
     }
 }
 
@@ -56,14 +47,14 @@ fn carry_out_all<L: Network + Drop, R: Network<Over = L::Over> + Drop>(
     plan: &mut Plan<L, R>,
     journal: Journal<L, R>,
 ) -> Vec<Reply<L, R>>
-    ensures { Replayed L.Over.Scale.algebra (model L.Network.meaning R.Network.meaning plan.old) (calls_of L.Network.meaning R.Network.meaning journal) (replies_of result) (model L.Network.meaning R.Network.meaning plan.new) }
+    ensures { Replayed L.Over.Scale.algebra (model plan.old) (calls_of L.Network.meaning R.Network.meaning journal) (replies_of result) (model plan.new) }
 {
-    let Journal { calls, room } = journal;
-    let mut left = calls;
-    let mut replies = room;
-    while let Some(call) = left.pop_front() {
-        let reply = carry_out(plan, call);
-        replies.push_reserved(reply);
+    let Journal {
+        calls,
+        room: mut replies,
+    } = journal;
+    for call in calls {
+        replies.push_reserved(carry_out(plan, call));
     }
     replies
 }

@@ -1,30 +1,27 @@
 // What a call answers.
+use arrayvec::ArrayVec;
 use model::{State, Window};
 use network::Refusal;
 use plan::Unexchanged;
 
-// The starts of both sides: the first of 32 each.
-#[derive(Clone, Copy)]
+// The starts of both sides.
+#[derive(Clone, Debug, PartialEq, Eq, Drop)]
 pub struct Starts {
-    pub lefts: [i32; 32],
-    pub left_count: usize,
-    pub rights: [i32; 32],
-    pub right_count: usize,
+    pub lefts: ArrayVec<i32, 32>,
+    pub rights: ArrayVec<i32, 32>,
 }
 
 #[derive(Drop)]
 pub enum Reply<L, R> {
-    Done,
-    Refused(Refusal),
-    // An exchange: the network that stood there, or the refusal with the one that was offered.
-    LeftBack(L),
-    RightBack(R),
-    LeftRefused(Unexchanged<L>),
-    RightRefused(Unexchanged<R>),
+    // Of a window that was to change, and of an adoption.
+    Changed(Result<(), Refusal>),
+    // The network that stood there, or the refusal with the one that was offered.
+    ExchangedLeft(Result<L, Unexchanged<L>>),
+    ExchangedRight(Result<R, Unexchanged<R>>),
     // The state after an advance, and the rounds made.
     Advanced(State, u64),
     StateIs(State),
     SlackIs(i64),
-    WindowIs(Window),
-    StartsAre(Starts),
+    WindowIs(Result<Window, Refusal>),
+    StartsAre(Result<Starts, Refusal>),
 }

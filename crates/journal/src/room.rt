@@ -14,9 +14,9 @@ impl<L: Drop, R: Drop> Journal<L, R> {
     ) -> Result<Journal<L, R>, VecDeque<Call<L, R>>>
         ensures { MatchResult result (λ j. j.calls.items ≡ calls.items) (λ c. c.items ≡ calls.items) }
     {
-        match Vec::with_capacity(heap, calls.len()) {
-            Ok(room) => Ok(Journal { calls, room }),
-            Err(_) => Err(calls),
-        }
+        let Ok(room) = Vec::with_capacity(heap, calls.len()) else {
+            return Err(calls);
+        };
+        Ok(Journal { calls, room })
     }
 }

@@ -1,12 +1,10 @@
 // A journal that was not begun.
 use crate::entries::Journal;
-use benches::Fault;
+use plan::Unfounded;
 
-// The fault of founding, and all that was handed over.
+// The fault of founding with the networks, and the journal.
 #[derive(Drop)]
 pub struct Unstarted<L, R> {
-    pub fault: Fault,
-    pub left: L,
-    pub right: R,
+    pub unfounded: Unfounded<L, R>,
     pub journal: Journal<L, R>,
 }

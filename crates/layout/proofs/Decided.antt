@@ -11,26 +11,26 @@ use Rattle.layout.specs.Layouts.{Layout, gives, fails, Outcome, reached, refused
 use Rattle.layout.specs.Reading.{Reads}
 use Rattle.layout.proofs.Steps.{Left, read_all, read_fault, field_fault, field_more}
 
-pub decides : {A : Type 0} (l : Layout ByteFault A) (c c' : Cursor) (b : Bool) (z : A) (f : ByteFault) (r : Result A ByteFault) →
+pub decides : {A : Type 0} {l : Layout ByteFault A} {c c' : Cursor} (b : Bool) (z : A) (f : ByteFault) {r : Result A ByteFault} →
     Left l c (cond b (gives z) (fails f)) c' → r ≡ cond b (Ok z) (Err f) → Reads l c c' (λ v. v) r
-decides {A} l c c' true z f r h e = subst (λ (x : Result A ByteFault). Reads l c c' (λ v. v) x) (sym e) (read_all l c c' (λ v. v) z z h refl)
-decides {A} l c c' false z f r h e = subst (λ (x : Result A ByteFault). Reads l c c' (λ v. v) x) (sym e) (read_fault l c c' (λ v. v) f h)
+decides {l = l} {c = c} {c' = c'} true z f h e = subst (Reads l c c' (λ v. v)) (sym e) (read_all z refl h)
+decides {l = l} {c = c} {c' = c'} false z f h e = subst (Reads l c c' (λ v. v)) (sym e) (read_fault h)
 
 -- ---- a field that is checked
 
-module _ (w : ℕ) (e : Refusal) (ok : ℕ → Bool) (c c' : Cursor) where
-  pub checked_fault : {X : Type 0} (view : X → ℕ) (f : ByteFault) (r : Result X ByteFault) → Reads (number w) c c' (λ v. v) (Err f) → IsErrAnd r (λ y. y ≡ f) →
+module _ (w : ℕ) (e : Refusal) (ok : ℕ → Bool) {c c' : Cursor} where
+  pub checked_fault : {X : Type 0} {view : X → ℕ} {r : Result X ByteFault} (f : ByteFault) → Reads (number w) c c' (λ v. v) (Err f) → IsErrAnd r (λ y. y ≡ f) →
       Reads (checked w e ok) c c' view r
   unfolding checked
-  checked_fault view f r h k = field_fault w _ c c' view f r h k
+  checked_fault f h k = field_fault w _ f h k
 
-  pub checked_ok : (v : ℕ) → Reads (number w) c c' (λ v. v) (Ok v) → ok v ≡ true → Reads (checked w e ok) c c' (λ v. v) (Ok v)
+  pub checked_ok : {v : ℕ} → Reads (number w) c c' (λ v. v) (Ok v) → ok v ≡ true → Reads (checked w e ok) c c' (λ v. v) (Ok v)
   unfolding checked
-  checked_ok v h t = decides (checked w e ok) c c' (ok v) v (fault e c.at) (Ok v) (field_more w _ c c' v h) (rw t)
+  checked_ok {v} h t = decides (ok v) v (fault e c.at) (field_more w _ v h) (rw t)
 
-  pub checked_bad : (v : ℕ) → Reads (number w) c c' (λ v. v) (Ok v) → ok v ≡ false → Reads (checked w e ok) c c' (λ v. v) (Err (fault e c.at))
+  pub checked_bad : {v : ℕ} → Reads (number w) c c' (λ v. v) (Ok v) → ok v ≡ false → Reads (checked w e ok) c c' (λ v. v) (Err (fault e c.at))
   unfolding checked
-  checked_bad v h t = decides (checked w e ok) c c' (ok v) v (fault e c.at) (Err (fault e c.at)) (field_more w _ c c' v h) (rw t)
+  checked_bad {v} h t = decides (ok v) v (fault e c.at) (field_more w _ v h) (rw t)
 
 -- a number that came through is one that the check lets through, w bytes on
 came_through : (w : ℕ) (file : List ℕ) (p : ℕ) (e : Refusal) (ok : ℕ → Bool) (v q : ℕ) → reached v q ≡ reads (checked w e ok) file p →

@@ -1,5 +1,5 @@
 -- Numbers of four bytes, in two's complement. Assumes nothing.
-use Rattle.std.specs.Prelude.{ℕ, Bool, cond, ◌&&◌, ℤ, Ok, Err, Result, int_le}
+use Rattle.std.specs.Prelude.{ℕ, Bool, if◌then◌else◌, ◌&&◌, ℤ, Ok, Err, Result, int_le}
 use Rattle.std.proofs.Common.{to_z}
 use Rattle.std.specs.Int.{w32}
 use Rattle.network.specs.declared.refusal.Refusal.{Refusal}
@@ -18,8 +18,8 @@ within b z = int_le b.least z && int_le z b.greatest
 
 -- z, or the refusal at offset p where z is out of bounds
 abbrev pub decided : Bounds → Refusal → ℕ → ℤ → Result ℤ ByteFault
-decided b e p z = cond (within b z) (Ok z) (Err (fault e p))
+decided b e p z = if within b z then Ok z else Err (fault e p)
 
 -- a field of four bytes whose number is within bounds
 unfoldable pub number_in : Bounds → Refusal → Layout ByteFault ℤ
-number_in b e = field 4 (fault Ends) (λ p v. cond (within b (signed v)) (gives (signed v)) (fails (fault e p)))
+number_in b e = field 4 (fault Ends) (λ p v. if within b (signed v) then gives (signed v) else fails (fault e p))

@@ -1,15 +1,16 @@
 // Why a file is turned away, and where.
+use crate::part::Part;
 use network::Refusal;
 
 // A fault as the bytes know it: the offset is that of the faulty field's first byte.
-#[derive(Clone, Copy)]
+#[derive(Clone, Copy, Debug, PartialEq, Eq)]
 pub struct ByteFault {
     pub refusal: Refusal,
     pub byte: usize,
 }
 
 // The same on a line: a station or a bench, 0 where there is none.
-#[derive(Clone, Copy)]
+#[derive(Clone, Copy, Debug, PartialEq, Eq)]
 pub struct LineFault {
     pub refusal: Refusal,
     pub line: usize,
@@ -17,10 +18,10 @@ pub struct LineFault {
 }
 
 // The same in a part of the file.
-#[derive(Clone, Copy)]
+#[derive(Clone, Copy, Debug, PartialEq, Eq)]
 pub struct FileFault {
     pub refusal: Refusal,
-    pub part: u8,
+    pub part: Part,
     pub line: usize,
     pub byte: usize,
 }

@@ -6,10 +6,11 @@ mod bytes;
 mod cursor;
 mod faults;
 mod numbers;
+mod part;
 mod places;
 
 pub use bounds::Bounds;
 pub use cursor::Cursor;
 pub use faults::{ByteFault, FileFault, LineFault};
 pub use numbers::read_number;
-pub use places::{in_part, on_line};
+pub use part::Part;

@@ -28,7 +28,7 @@ fn signed(word: u32) -> i32
 fn within(v: i32, bounds: Bounds, refusal: Refusal, byte: usize) -> Result<i32, ByteFault>
     ensures { result ≡ decided bounds refusal byte v }
 {
-    if bounds.least <= v && v <= bounds.greatest {
+    if bounds.contains(v) {
         Ok(v)
     } else {
         Err(ByteFault { refusal, byte })

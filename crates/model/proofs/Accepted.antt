@@ -5,8 +5,8 @@ use Rattle.scale.specs.Algebra.{Algebra, LawfulScale}
 use Rattle.network.specs.Networks.{Meaning}
 use Rattle.network.specs.Checks.{accepted, Checked}
 use Rattle.network.proofs.InOrder.{checked_both}
-use Rattle.model.specs.declared.Window.{Window}
-use Rattle.model.specs.declared.State.TheVariants.{Impossible}
+use Rattle.model.specs.declared.bench.Window.{Window}
+use Rattle.model.specs.declared.state.State.TheVariants.{Impossible}
 use Rattle.model.specs.Plans.{Model}
 use Rattle.model.specs.Sheets.{Side}
 use Rattle.model.specs.Calls.{NotOfScale, table_of, bench_of, hall_of, window_checks, found_checks, lower_checks, raise_checks, loosen_checks, exchange_checks}

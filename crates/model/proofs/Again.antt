@@ -5,9 +5,9 @@ use Rattle.std.proofs.lemmas.Int.{ints}
 use Rattle.std.proofs.lemmas.Bool.{cases_lt}
 use Rattle.scale.specs.Algebra.{Algebra, LawfulScale}
 use Rattle.network.specs.Checks.{accepted}
-use Rattle.model.specs.declared.Bench.{Bench}
-use Rattle.model.specs.declared.State.{State}
-use Rattle.model.specs.declared.State.TheVariants.{Open, InStep}
+use Rattle.model.specs.declared.bench.Bench.{Bench}
+use Rattle.model.specs.declared.state.State.{State}
+use Rattle.model.specs.declared.state.State.TheVariants.{Open, InStep}
 use Rattle.model.specs.Plans.{Model, round, Rounds, slack}
 use Rattle.model.specs.Sheets.{Sheet, own_sheet, fresh}
 use Rattle.model.specs.Calls.{no_bench, bench_of, change_at, lower_bench, lowered, adopt_bench, adopted, Lowered, Advanced, Adopted}

@@ -3,7 +3,7 @@ use Rattle.std.proofs.Common.{◌≡◌, ℕ, List, ℤ, sym, ◌∙◌, subst}
 use Rattle.scale.specs.Algebra.{Algebra}
 use Rattle.network.specs.Lists.{◌≼◌, Row}
 use Rattle.network.specs.Networks.{Meaning, LawfulNetwork}
-use Rattle.model.specs.declared.Bench.{Bench}
+use Rattle.model.specs.declared.bench.Bench.{Bench}
 use Rattle.model.specs.Plans.{starts, cut}
 use Rattle.model.proofs.Order.{≼_refl, ≼_trans, ≼-length}
 use Rattle.model.proofs.Tables.{cut_below, cut_limit, cut_above, cut_values}

@@ -3,8 +3,8 @@ use Rattle.std.proofs.Common.{◌≡◌, ℕ, List, length, ℤ, refl, ap, arith
 use Rattle.scale.specs.Algebra.{Algebra}
 use Rattle.network.specs.Lists.{◌≼◌, Row}
 use Rattle.network.specs.Networks.{Meaning, LawfulNetwork}
-use Rattle.model.specs.declared.State.{State}
-use Rattle.model.specs.declared.State.TheVariants.{Open, InStep, Impossible}
+use Rattle.model.specs.declared.state.State.{State}
+use Rattle.model.specs.declared.state.State.TheVariants.{Open, InStep, Impossible}
 use Rattle.model.specs.Plans.{Model, starts}
 use Rattle.model.specs.Sheets.{HallSheet, Sheet, Keeps, Fits, Greatest, own_sheet, fresh}
 use Rattle.model.proofs.Order.{≼_antisym}

@@ -3,13 +3,14 @@ use Rattle.std.proofs.Common.{◌≡◌, ℕ, zero, suc, ◌<◌, ◌≤◌, Boo
 use Rattle.std.proofs.lemmas.Int.{ints}
 use Rattle.scale.specs.Algebra.{Algebra}
 use Rattle.network.specs.Lists.{◌≼◌, Row}
-use Rattle.model.specs.declared.Window.{Window}
-use Rattle.model.specs.declared.State.{State}
-use Rattle.model.specs.declared.State.TheVariants.{Open, InStep, Impossible}
+use Rattle.model.specs.declared.bench.Window.{Window}
+use Rattle.model.specs.declared.state.State.{State}
+use Rattle.model.specs.declared.state.State.TheVariants.{Open, InStep, Impossible}
 use Rattle.model.specs.Plans.{Hall, Model, starts, cut_by, fallen, unmoved, verdict, round, Rounds, spare, slack, slack_in}
 use Rattle.model.specs.Sheets.{Sheet, Keeps, Fits, own_sheet}
 use Rattle.model.specs.Calls.{Advanced}
-use Rattle.model.proofs.Order.{≼_of_eq, and_true, and_false, or_true, or_false, same_list_true}
+use Rattle.model.proofs.Order.{≼_of_eq, same_list_true}
+use Rattle.std.proofs.lemmas.Bool.{and_parts, and_cases, or_cases, or_parts}
 use Rattle.model.proofs.Tables.{cut_windows, cut_keeps, fallen_none, cut_spare, cut_falls, keeps_spare}
 use Rattle.model.proofs.Halves.{half_row, half_arrives, half_above}
 use Rattle.model.proofs.Invariant.{Core, Good, row_of, open_possible}
@@ -83,7 +84,7 @@ module _ (σ : Algebra) (p : Model) (c : Good σ p) (o : p.state ≡ Open) where
       (c.above can x y f).0 (above_r x y f) (≼_of_eq (p.left.network.arrivals x) (p.right.network.arrivals y) f.together)
 
   kept : ¬ (verdict (fallen left'.table || fallen right'.table) (unmoved p.left left' && unmoved p.right right') ≡ Impossible) → (fallen left'.table ≡ false) × (fallen right'.table ≡ false)
-  kept n = or_false (fallen left'.table) (fallen right'.table) (verdict_possible _ (unmoved p.left left' && unmoved p.right right') n)
+  kept n = or_parts (fallen left'.table) (fallen right'.table) (verdict_possible _ (unmoved p.left left' && unmoved p.right right') n)
 
   pub round_core : Core σ (own_sheet p) (round p)
   unfolding round
@@ -93,14 +94,14 @@ module _ (σ : Algebra) (p : Model) (c : Good σ p) (o : p.state ≡ Open) where
     right_keeps = λ n. cut_keeps p.right.table _ (c.right_keeps can) (kept n).1;
     above = λ n x y f. (above_l x y f, above_r x y f);
     meets = λ e.
-        let rest = and_true (unmoved p.left left') (unmoved p.right right') (verdict_step (fallen left'.table || fallen right'.table) (unmoved p.left left' && unmoved p.right right') e) in
+        let rest = and_parts (unmoved p.left left') (unmoved p.right right') (verdict_step (fallen left'.table || fallen right'.table) (unmoved p.left left' && unmoved p.right right') e) in
         let same = same_list_true (starts p.left.table) (starts left'.table) rest.0 in
         record {
           left_first = arrives_l;
           right_first = subst (λ (x : List ℤ). p.right.network.arrivals (starts right'.table) ≼ p.left.network.arrivals x) same arrives_r;
         };
     none = λ e x y f.
-        elim (or_true (fallen left'.table) (fallen right'.table) (verdict_impossible (fallen left'.table || fallen right'.table) (unmoved p.left left' && unmoved p.right right') e)) [
+        elim (or_cases (fallen left'.table) (fallen right'.table) (verdict_impossible (fallen left'.table || fallen right'.table) (unmoved p.left left' && unmoved p.right right') e)) [
           | inl l ↦ fallen_none left'.table x l (subst (λ (ws : List Window). Keeps ws x) (sym (cut_windows p.left.table _)) f.left_keeps) (above_l x y f)
           | inr r ↦ fallen_none right'.table y r (subst (λ (ws : List Window). Keeps ws y) (sym (cut_windows p.right.table _)) f.right_keeps) (above_r x y f)
         ];
@@ -119,7 +120,7 @@ module _ (σ : Algebra) (p : Model) (c : Good σ p) (o : p.state ≡ Open) where
       let r' = spare right'.table in
       let moved = verdict_open (fallen left'.table || fallen right'.table) (unmoved p.left left' && unmoved p.right right') e in
       let falls : (l' +ℤ r') <ℤ (l +ℤ r) =
-      elim (and_false (unmoved p.left left') (unmoved p.right right') moved) [
+      elim (and_cases (unmoved p.left left') (unmoved p.right right') moved) [
         | inl a ↦ left_falls l l' r r' (cut_falls p.left.table _ a) (cut_spare p.right.table _)
         | inr b ↦ right_falls l l' r r' (cut_spare p.left.table _) (cut_falls p.right.table _ b)
       ] in

@@ -3,8 +3,8 @@ use Rattle.std.proofs.Common.{◌≡◌, ℕ, List, ℤ, sym, refl, ap, ◌∙�
 use Rattle.scale.specs.Algebra.{Algebra, LawfulScale}
 use Rattle.network.specs.Networks.{LawfulNetwork}
 use Rattle.network.specs.Checks.{Answer, accepted, refused}
-use Rattle.model.specs.declared.State.{State}
-use Rattle.model.specs.declared.State.TheVariants.{Open}
+use Rattle.model.specs.declared.state.State.{State}
+use Rattle.model.specs.declared.state.State.TheVariants.{Open}
 use Rattle.model.specs.Plans.{Model}
 use Rattle.model.specs.Sheets.{Side, Sheet, new_sheet, own_sheet, fresh, Greatest, put_ceiling, put_floor, put_both, rewrite_at, put_network, put_ceilings}
 use Rattle.model.specs.Calls.{lower_bench, raise_bench, lowered, raised, adopted, Lowered, Raised, Loosened, Exchanged, Advanced, Adopted}

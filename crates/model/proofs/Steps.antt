@@ -5,10 +5,10 @@ use Rattle.std.proofs.lemmas.Int.{ints}
 use Rattle.scale.specs.Algebra.{Algebra}
 use Rattle.network.specs.Lists.{◌≼◌}
 use Rattle.network.specs.Networks.{Meaning, LawfulNetwork}
-use Rattle.model.specs.declared.Window.{Window}
-use Rattle.model.specs.declared.Bench.{Bench}
-use Rattle.model.specs.declared.State.{State}
-use Rattle.model.specs.declared.State.TheVariants.{Open, InStep, Impossible}
+use Rattle.model.specs.declared.bench.Window.{Window}
+use Rattle.model.specs.declared.bench.Bench.{Bench}
+use Rattle.model.specs.declared.state.State.{State}
+use Rattle.model.specs.declared.state.State.TheVariants.{Open, InStep, Impossible}
 use Rattle.model.specs.Plans.{Model, starts}
 use Rattle.model.specs.Sheets.{Side, the_left, the_right, HallSheet, Sheet, new_sheet, Keeps, Fits, window, windows, own_sheet, alter, put_ceiling, put_floor, put_both, rewrite_at, put_network, put_ceilings}
 use Rattle.model.specs.Calls.{change_at, in_state, lower_bench, raise_bench, adopt_bench, lowered, raised, adopted}

@@ -5,13 +5,16 @@ use Rattle.std.specs.Int.{int_min}
 use Rattle.std.proofs.lemmas.Int.{ints}
 use Rattle.network.specs.Lists.{◌≼◌, Values, Row}
 use Rattle.scale.specs.Algebra.{Algebra}
-use Rattle.model.specs.declared.Bench.{Bench}
-use Rattle.model.specs.Plans.{starts, cut, fallen, spare, same_number, same_list}
-use Rattle.model.specs.declared.Window.{Window}
+use Rattle.model.specs.declared.bench.Bench.{Bench}
+use Rattle.model.specs.Plans.{starts, cut, fallen, spare, same_list}
+use Rattle.model.specs.declared.bench.Window.{Window}
 use Rattle.model.specs.Sheets.{Keeps, window, windows, fresh_bench, alter, put_ceiling, put_floor, put_both, under}
 use Rattle.model.specs.Calls.{lower_bench, raise_bench, adopt_bench}
 use Rattle.scale.proofs.Integers.{≤_refl, ≤_trans, min_left, min_right, min_above}
-use Rattle.model.proofs.Order.{≼_refl, same_number_false, and_false, or_true, or_false, same_list_same, true_not_false}
+use Rattle.model.proofs.Order.{≼_refl, same_list_same}
+use Rattle.std.proofs.lemmas.Bool.{and_cases, or_cases, or_parts, true≢false}
+use Rattle.std.proofs.lemmas.Bool.Decides.{Decides-int_eq, not_from_Decides}
+use Rattle.std.specs.Ordering.{int_eq}
 
 -- every window lies in the range, its floor at most its ceiling
 abbrev pub Proper : Algebra → List Window → Type 0
@@ -70,7 +73,7 @@ pub cut_keeps : (bs : List Bench) (v : List ℤ) → Keeps (windows bs) (starts 
 cut_keeps [] v h e = tt
 cut_keeps (b ∷ bs) [] h e = h
 cut_keeps (b ∷ bs) (a ∷ v) h e =
-    let both = or_false (lt_z (int_min b.start a) b.floor) (fallen (cut bs v)) e in
+    let both = or_parts (lt_z (int_min b.start a) b.floor) (fallen (cut bs v)) e in
     (lt_false (int_min b.start a) b.floor both.0, ≤_trans _ _ _ (min_left b.start a) h.1, cut_keeps bs v h.2 both.1)
   where
     lt_false : (a b : ℤ) → lt_z a b ≡ false → b ≤ℤ a
@@ -83,10 +86,10 @@ clash : (a b c : ℤ) → a <ℤ b → b ≤ℤ c → c ≤ℤ a → ⊥
 clash a b c h k l = omega (arith, ints)
 
 pub fallen_none : (bs : List Bench) (x : List ℤ) → fallen bs ≡ true → Keeps (windows bs) x → x ≼ starts bs → ⊥
-fallen_none [] x e h k = true_not_false (sym e)
+fallen_none [] x e h k = true≢false (sym e)
 fallen_none (b ∷ bs) [] e h k = k
 fallen_none (b ∷ bs) (a ∷ x) e h k =
-    elim (or_true (lt_z b.start b.floor) (fallen bs) e) [
+    elim (or_cases (lt_z b.start b.floor) (fallen bs) e) [
       | inl l ↦ clash b.start b.floor a (lt_true _ _ l) h.0 k.0
       | inr r ↦ fallen_none bs x r h.2 k.1
     ]
@@ -108,12 +111,12 @@ fell_there : (s m f r r' : ℤ) → m ≤ℤ s → r' <ℤ r → ((m -ℤ f) +�
 fell_there s m f r r' h k = omega (arith, ints)
 
 pub cut_falls : (bs : List Bench) (v : List ℤ) → same_list (starts bs) (starts (cut bs v)) ≡ false → spare (cut bs v) <ℤ spare bs
-cut_falls [] v e = absurd (true_not_false e)
-cut_falls (b ∷ bs) [] e = absurd (true_not_false (sym (same_list_same (starts (b ∷ bs))) ∙ e))
+cut_falls [] v e = absurd (true≢false e)
+cut_falls (b ∷ bs) [] e = absurd (true≢false (sym (same_list_same (starts (b ∷ bs))) ∙ e))
 cut_falls (b ∷ bs) (a ∷ v) e =
     let m = int_min b.start a in
-    elim (and_false (same_number b.start m) (same_list (starts bs) (starts (cut bs v))) e) [
-      | inl l ↦ fell_here b.start m b.floor (spare bs) (spare (cut bs v)) (min_left _ _) (same_number_false _ _ l) (cut_spare bs v)
+    elim (and_cases (int_eq b.start m) (same_list (starts bs) (starts (cut bs v))) e) [
+      | inl l ↦ fell_here b.start m b.floor (spare bs) (spare (cut bs v)) (min_left _ _) (not_from_Decides _ (Decides-int_eq b.start m) l) (cut_spare bs v)
       | inr r ↦ fell_there b.start m b.floor (spare bs) (spare (cut bs v)) (min_left _ _) (cut_falls bs v r)
     ]
 

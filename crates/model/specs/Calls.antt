@@ -4,11 +4,11 @@ use Rattle.std.specs.Int.{int_min}
 use Rattle.scale.specs.Algebra.{Algebra}
 use Rattle.network.specs.Networks.{Meaning}
 use Rattle.network.specs.Checks.{Answer, accepted, refused, Check, check, Checked}
-use Rattle.model.specs.declared.Place.{Place}
-use Rattle.model.specs.declared.Window.{Window}
-use Rattle.model.specs.declared.Bench.{Bench}
-use Rattle.model.specs.declared.State.{State}
-use Rattle.model.specs.declared.State.TheVariants.{Open, InStep, Impossible}
+use Rattle.model.specs.declared.place.Place.{Place}
+use Rattle.model.specs.declared.bench.Window.{Window}
+use Rattle.model.specs.declared.bench.Bench.{Bench}
+use Rattle.model.specs.declared.state.State.{State}
+use Rattle.model.specs.declared.state.State.TheVariants.{Open, InStep, Impossible}
 use Rattle.model.specs.Plans.{Hall, Model, Rounds}
 use Rattle.model.specs.Sheets.{Side, the_left, the_right, new_sheet, own_sheet, fresh, alter, put_both, rewrite_at, put_network}
 
@@ -149,11 +149,12 @@ abbrev pub hall_of : Model → Side → Hall
 hall_of p the_left = p.left
 hall_of p the_right = p.right
 
+-- the network m has the size of the network n that stands there
+abbrev pub same_size_checks : Meaning → Meaning → List (Check ℕ)
+same_size_checks n m = check 12 (m.stations ≢ n.stations) ∷ check 12 (m.benches ≢ n.benches) ∷ []
+
 abbrev pub exchange_checks : Model → Side → Meaning → List (Check ℕ)
-exchange_checks p s m =
-    check 12 (m.stations ≢ (hall_of p s).network.stations)
-    ∷ check 12 (m.benches ≢ (hall_of p s).network.benches)
-    ∷ []
+exchange_checks p s m = same_size_checks (hall_of p s).network m
 
 abbrev pub Exchanged : Model → Side → Meaning → Answer ℕ → Model → Type 0
 Exchanged p s m = Changes (exchange_checks p s m) p (fresh (put_network (own_sheet p) s m))

@@ -2,8 +2,8 @@
 use Rattle.std.specs.Prelude.{◌≡◌, ℕ, ◌+◌, ℤ, pos, ◌≤ℤ◌, ◌<ℤ◌}
 use Rattle.scale.specs.Algebra.{Algebra, LawfulScale}
 use Rattle.network.specs.Checks.{accepted}
-use Rattle.model.specs.declared.State.{State}
-use Rattle.model.specs.declared.State.TheVariants.{InStep}
+use Rattle.model.specs.declared.state.State.{State}
+use Rattle.model.specs.declared.state.State.TheVariants.{InStep}
 use Rattle.model.specs.Plans.{Model, starts, slack}
 use Rattle.model.specs.Sheets.{own_sheet, fresh}
 use Rattle.model.specs.Calls.{bench_of, Lowered, Advanced, Adopted}

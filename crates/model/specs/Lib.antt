@@ -3,3 +3,4 @@ pub mod Sheets
 pub mod Calls
 pub mod Runs
 pub mod Laws
+pub mod States

@@ -1,10 +1,13 @@
 -- A plan and its rounds. Assumes nothing.
-use Rattle.std.specs.Prelude.{◌≡◌, ℕ, zero, suc, Bool, true, false, cond, ◌&&◌, ◌||◌, List, [], ◌∷◌, map, ℤ, pos, negsuc, ◌+ℤ◌, ◌-ℤ◌, ◌==◌, int_lt}
+use Rattle.std.specs.Prelude.{◌≡◌, ℕ, zero, suc, Bool, cond, ◌&&◌, ◌||◌, List, [], ◌∷◌, map, ℤ, pos, ◌+ℤ◌, ◌-ℤ◌, int_lt}
 use Rattle.std.specs.Int.{int_min}
+use Rattle.std.specs.List.{list_any}
+use Rattle.std.specs.Ordering.{int_eq}
+use lib.Pointwise.{pointwise}
 use Rattle.network.specs.Networks.{Meaning}
-use Rattle.model.specs.declared.Bench.{Bench}
-use Rattle.model.specs.declared.State.{State}
-use Rattle.model.specs.declared.State.TheVariants.{Open, InStep, Impossible}
+use Rattle.model.specs.declared.bench.Bench.{Bench}
+use Rattle.model.specs.declared.state.State.{State}
+use Rattle.model.specs.declared.state.State.TheVariants.{Open, InStep, Impossible}
 
 -- one side of a plan: its network, and the records of its benches
 pub record Hall : Type 0 where
@@ -36,20 +39,11 @@ cut_by hall other = record {
 
 -- some start lies below its floor
 abbrev pub fallen : List Bench → Bool
-fallen [] = false
-fallen (b ∷ bs) = int_lt b.start b.floor || fallen bs
+fallen bs = list_any (λ (b : Bench). int_lt b.start b.floor) bs
 
-abbrev pub same_number : ℤ → ℤ → Bool
-same_number (pos a) (pos b) = a == b
-same_number (pos a) (negsuc b) = false
-same_number (negsuc a) (pos b) = false
-same_number (negsuc a) (negsuc b) = a == b
-
+-- the two lists are the same
 abbrev pub same_list : List ℤ → List ℤ → Bool
-same_list [] [] = true
-same_list [] (y ∷ ys) = false
-same_list (x ∷ xs) [] = false
-same_list (x ∷ xs) (y ∷ ys) = same_number x y && same_list xs ys
+same_list xs ys = pointwise int_eq xs ys
 
 -- no start changed
 abbrev pub unmoved : Hall → Hall → Bool

@@ -3,9 +3,9 @@ use Rattle.std.specs.Prelude.{◌≡◌, ℕ, ◌↔◌, List, ℤ, pos, ◌<ℤ
 use Rattle.scale.specs.Algebra.{Algebra, LawfulScale}
 use Rattle.network.specs.Networks.{Meaning, LawfulNetwork}
 use Rattle.network.specs.Checks.{Answer, accepted, refused, Checked}
-use Rattle.model.specs.declared.Window.{Window}
-use Rattle.model.specs.declared.State.{State}
-use Rattle.model.specs.declared.State.TheVariants.{InStep, Impossible}
+use Rattle.model.specs.declared.bench.Window.{Window}
+use Rattle.model.specs.declared.state.State.{State}
+use Rattle.model.specs.declared.state.State.TheVariants.{InStep, Impossible}
 use Rattle.model.specs.Plans.{Model, starts, slack}
 use Rattle.model.specs.Sheets.{Side, Sheet, new_sheet, own_sheet, window, SomeFits, Greatest, put_ceiling, put_floor, put_both, rewrite_at, put_network, put_ceilings}
 use Rattle.model.specs.Calls.{Founded, Lowered, Raised, Loosened, Exchanged, Advanced, Adopted, place_checks, starts_checks, bench_of}

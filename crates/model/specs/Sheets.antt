@@ -2,9 +2,9 @@
 use Rattle.std.specs.Prelude.{◌≡◌, ℕ, zero, suc, List, [], ◌∷◌, map, ℤ, ◌≤ℤ◌}
 use Rattle.network.specs.Lists.{◌≼◌}
 use Rattle.network.specs.Networks.{Meaning}
-use Rattle.model.specs.declared.Window.{Window}
-use Rattle.model.specs.declared.Bench.{Bench}
-use Rattle.model.specs.declared.State.TheVariants.{Open}
+use Rattle.model.specs.declared.bench.Window.{Window}
+use Rattle.model.specs.declared.bench.Bench.{Bench}
+use Rattle.model.specs.declared.state.State.TheVariants.{Open}
 use Rattle.model.specs.Plans.{Hall, Model}
 
 -- one side of a sheet

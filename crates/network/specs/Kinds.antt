@@ -5,6 +5,8 @@ use Rattle.network.specs.Lists.{at, listed}
 use Rattle.network.specs.Checks.{Check, check}
 use Rattle.network.specs.Refusals.{number}
 use Rattle.network.specs.Networks.{Meaning}
+use Rattle.scale.specs.declared.scale.Scale.{Ghosts as ScaleGhosts}
+use Rattle.network.specs.declared.network.Network.{Ghosts as NetworkGhosts}
 use Rattle.network.specs.declared.carriage.Carriage.{Carriage}
 use Rattle.network.specs.declared.carriage.Uncarried.{Uncarried}
 use Rattle.network.specs.declared.series.Series.{Series}
@@ -81,8 +83,8 @@ series s a b = record {
 abbrev pub straight_of : {S : Type 0} → Algebra → Straight S → Meaning
 straight_of s n = straight s n.size
 
-abbrev pub carriage_of : {N : Type 0} → Algebra → (N → Meaning) → Carriage N → Meaning
-carriage_of s below n = carriage s n.coefficients (below n.below)
+abbrev pub carriage_of : {N S : Type 0} {below : NetworkGhosts N S} {over : ScaleGhosts S} → Carriage N S below over → Meaning
+carriage_of {N} {S} {below} {over} n = carriage over.algebra n.coefficients.items (below.meaning n.below)
 
 -- what the refusal of a carriage tells: its number, and the station
 abbrev pub uncarried : {N : Type 0} → Uncarried N → ℕ × Option ℕ

@@ -1,6 +1,6 @@
 -- Lists of whole numbers, place by place. Assumes nothing.
 use Rattle.std.specs.Prelude.{◌≡◌, ℕ, List, [], ◌∷◌, map, length, ℤ, pos, ◌≤ℤ◌, slice_index_or}
-use Rattle.std.specs.List.{range_with_len}
+use Rattle.std.specs.List.{AllZip, range_with_len}
 use Rattle.scale.specs.Algebra.{Algebra, Value}
 
 -- what stands at a place
@@ -14,10 +14,7 @@ listed f n = map f (range_with_len 0 n)
 -- xs is as long as ys, and nowhere above it
 infix 50 ◌≼◌
 abbrev pub ◌≼◌ : List ℤ → List ℤ → Type 0
-[] ≼ [] = Unit {0}
-[] ≼ (y ∷ ys) = ⊥
-(x ∷ xs) ≼ [] = ⊥
-(x ∷ xs) ≼ (y ∷ ys) = (x ≤ℤ y) × (xs ≼ ys)
+xs ≼ ys = AllZip (λ x y. x ≤ℤ y) xs ys
 
 -- every number of the list is a value of the scale
 abbrev pub Values : Algebra → List ℤ → Type 0

@@ -7,12 +7,13 @@ ghost use Rattle.network.specs.CarriageLaw.{carriage_lawful};
 use crate::carriage::{Carriage, Uncarried};
 use crate::network::Network;
 use crate::refusal::Refusal;
-use crate::stages::{copied, divide, first_absent, multiply};
+use crate::stages::{divide, first_absent, multiply};
+use arrayvec::ArrayVec;
 
 impl<N: Network> Carriage<N> {
     // One present coefficient a station over a network, or 12, or 6 with the station. A refusal hands the network back.
     pub fn new(below: N, coefficients: &[Option<i32>]) -> Result<Carriage<N>, Uncarried<N>>
-        ensures { Makes (carriage_checks N.Over.Scale.algebra (N.Network.meaning below) coefficients.now) uncarried (λ n. carriage_of N.Over.Scale.algebra N.Network.meaning n ≡ carriage N.Over.Scale.algebra coefficients.now (N.Network.meaning below)) (λ e. e.below ≡ below) result }
+        ensures { Makes (carriage_checks N.Over.Scale.algebra (N.Network.meaning below) coefficients.now) uncarried (λ n. carriage_of n ≡ carriage N.Over.Scale.algebra coefficients.now (N.Network.meaning below)) (λ e. e.below ≡ below) result }
     {
         if coefficients.len() != below.stations() {
             return Err(Uncarried {
@@ -29,7 +30,7 @@ impl<N: Network> Carriage<N> {
             });
         }
         Ok(Carriage {
-            coefficients: copied(coefficients),
+            coefficients: ArrayVec::try_from(coefficients).unwrap(),
             below,
         })
     }
@@ -38,9 +39,9 @@ impl<N: Network> Carriage<N> {
 impl<N: Network> Network for Carriage<N> {
     type Over = N::Over;
 
-    ghost meaning = { carriage_of N.Over.Scale.algebra N.Network.meaning };
+    ghost meaning = { carriage_of };
 
-    ghost lawful = { λ n. carriage_lawful N.Over.Scale.algebra N.Over.Scale.lawful n.coefficients (N.Network.meaning n.below) (N.Network.lawful n.below) };
+    ghost lawful = { λ n. carriage_lawful N.Over.Scale.algebra N.Over.Scale.lawful n.coefficients.items (N.Network.meaning n.below) (N.Network.lawful n.below) };
 
     fn stations(&self) -> usize {
         self.below.stations()
@@ -62,7 +63,7 @@ impl<N: Network> Network for Carriage<N> {
             return Err(Refusal::Lengths);
         }
         let mut room = [0; 32];
-        let part = &mut room[0..size];
+        let part = &mut room[..size];
         divide::<N::Over>(&self.coefficients, limits, part);
         self.below.latest(part, out)
     }

@@ -1,6 +1,6 @@
 // Whether starts keep the stations' limits.
-ghost use Rattle.std.specs.Prelude.{◌≡◌, T, ◌↔◌, length, int_lt};
-ghost use Rattle.network.specs.Lists.{◌≼◌};
+ghost use Rattle.std.specs.Prelude.{◌≡◌, zip, int_le};
+ghost use Rattle.std.specs.List.{list_all};
 ghost use Rattle.network.specs.Answers.{Timed};
 
 use crate::network::Network;
@@ -19,26 +19,17 @@ pub fn reaches_in_time<N: Network>(
         return Err(Refusal::Lengths);
     }
     let mut room = [0; 32];
-    let reached = &mut room[0..size];
+    let reached = &mut room[..size];
     network.arrivals(starts, reached)?;
     Ok(is_nowhere_above(reached, limits))
 }
 
 // Whether each value is at most its limit.
 fn is_nowhere_above(values: &[i32], limits: &[i32]) -> bool
-    requires { length values.now ≡ length limits.now }
-    ensures { T result ↔ (values.now ≼ limits.now) }
+    ensures { result ≡ list_all (λ p. int_le p.0 p.1) (zip values.now limits.now) }
 {
-    for i in 0..values.len() {
-        if is_past(values[i], limits[i]) {
-            return false;
-        }
-    }
-    true
-}
-
-fn is_past(value: i32, limit: i32) -> bool
-    ensures { result ≡ int_lt limit value }
-{
-    value > limit
+    values
+        .iter()
+        .zip(limits)
+        .all(|(value, limit)| value <= limit)
 }

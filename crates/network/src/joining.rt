@@ -1,12 +1,11 @@
 // Putting two networks in series, and asking them.
-ghost use Rattle.std.specs.Prelude.{◌≡◌, ◌≢◌, [], ◌∷◌, ◌==◌};
+ghost use Rattle.std.specs.Prelude.{◌≡◌, ◌≢◌, [], ◌∷◌, ◌==◌, replicate};
 ghost use Rattle.network.specs.Checks.{check, Makes};
 ghost use Rattle.network.specs.Refusals.{number};
 ghost use Rattle.network.specs.Kinds.{chained, series_of};
 ghost use Rattle.network.specs.SeriesLaw.{series_lawful};
 
 use crate::network::Network;
-use crate::passing::{pass_back, pass_on};
 use crate::refusal::Refusal;
 use crate::series::{Series, Unjoined};
 use scale::Scale;
@@ -51,12 +50,30 @@ impl<A: Network, B: Network<Over = A::Over>> Network for Series<A, B> {
     }
 
     fn arrivals(&self, starts: &[i32], out: &mut [i32]) -> Result<(), Refusal> {
-        let mut room = [A::Over::NUMBERS.lowest(); 32];
-        pass_on(&self.first, &self.second, starts, &mut room, out)
+        let mut room = lowest_starts::<A::Over>();
+        self.first
+            .arrivals(starts, &mut room[..self.first.stations()])?;
+        self.second.arrivals(&room[..self.second.benches()], out)
     }
 
     fn latest(&self, limits: &[i32], out: &mut [i32]) -> Result<(), Refusal> {
-        let mut room = [A::Over::NUMBERS.highest(); 32];
-        pass_back(&self.first, &self.second, limits, &mut room, out)
+        let mut room = highest_limits::<A::Over>();
+        self.second
+            .latest(limits, &mut room[..self.second.benches()])?;
+        self.first.latest(&room[..self.first.stations()], out)
     }
+}
+
+// Starts that are missing count as the lowest value.
+fn lowest_starts<S: Scale>() -> [i32; 32]
+    ensures { result ≡ replicate 32 S.Scale.algebra.lowest }
+{
+    [S::LOWEST; 32]
+}
+
+// Limits that are missing count as the highest value.
+fn highest_limits<S: Scale>() -> [i32; 32]
+    ensures { result ≡ replicate 32 S.Scale.algebra.highest }
+{
+    [S::HIGHEST; 32]
 }

@@ -7,7 +7,6 @@ mod deadlines;
 mod hold;
 mod joining;
 mod network;
-mod passing;
 mod refusal;
 mod series;
 mod stages;

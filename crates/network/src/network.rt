@@ -30,14 +30,14 @@ pub trait Network {
     fn lowest(&self) -> i32
         ensures { result ≡ Self.Over.Scale.algebra.lowest }
     {
-        Self::Over::NUMBERS.lowest()
+        Self::Over::LOWEST
     }
 
     // The highest value of the network's scale.
     fn highest(&self) -> i32
         ensures { result ≡ Self.Over.Scale.algebra.highest }
     {
-        Self::Over::NUMBERS.highest()
+        Self::Over::HIGHEST
     }
 
     ghost lawful: { (n : Self) → LawfulNetwork Self.Over.Scale.algebra (meaning n) };

@@ -1,5 +1,5 @@
 // A network that hands its list through.
-ghost use Rattle.std.specs.Prelude.{◌≤◌};
+ghost use Rattle.network.specs.Networks.{Size};
 
 use std::marker::PhantomData;
 
@@ -8,6 +8,5 @@ use std::marker::PhantomData;
 pub struct Straight<S> {
     pub(crate) size: usize,
     pub(crate) scale: PhantomData<S>,
-    ghost some: { 1 ≤ size },
-    ghost few: { size ≤ 32 },
+    ghost sized: { Size size },
 }

@@ -3,7 +3,8 @@ ghost use Rattle.std.specs.Prelude.{◌≡◌, [], ◌∷◌};
 ghost use Rattle.network.specs.Checks.{check, Makes};
 ghost use Rattle.network.specs.Networks.{Size};
 ghost use Rattle.network.specs.Refusals.{number};
-ghost use Rattle.network.specs.Kinds.{straight, straight_of};
+ghost use Rattle.network.specs.Answers.{Answered};
+ghost use Rattle.network.specs.Kinds.{handed, straight, straight_of};
 ghost use Rattle.network.specs.StraightLaw.{straight_lawful};
 
 use crate::hold::hold;
@@ -26,6 +27,17 @@ impl<S: Scale> Straight<S> {
             scale: PhantomData,
         })
     }
+
+    // Hands a list through.
+    fn hand(&self, list: &[i32], out: &mut [i32]) -> Result<(), Refusal>
+        ensures { Answered self.now.size self.now.size (handed S.Scale.algebra self.now.size) list.now out.old out.new result }
+    {
+        if list.len() != self.size || out.len() != self.size {
+            return Err(Refusal::Lengths);
+        }
+        hold::<S>(list, out);
+        Ok(())
+    }
 }
 
 impl<S: Scale> Network for Straight<S> {
@@ -33,7 +45,7 @@ impl<S: Scale> Network for Straight<S> {
 
     ghost meaning = { straight_of S.Scale.algebra };
 
-    ghost lawful = { λ n. straight_lawful S.Scale.algebra S.Scale.lawful n.size (record { some = n.some; few = n.few }) };
+    ghost lawful = { λ n. straight_lawful S.Scale.algebra S.Scale.lawful n.size n.sized };
 
     fn stations(&self) -> usize {
         self.size
@@ -44,18 +56,10 @@ impl<S: Scale> Network for Straight<S> {
     }
 
     fn arrivals(&self, starts: &[i32], out: &mut [i32]) -> Result<(), Refusal> {
-        if starts.len() != self.size || out.len() != self.size {
-            return Err(Refusal::Lengths);
-        }
-        hold::<S>(starts, out);
-        Ok(())
+        self.hand(starts, out)
     }
 
     fn latest(&self, limits: &[i32], out: &mut [i32]) -> Result<(), Refusal> {
-        if limits.len() != self.size || out.len() != self.size {
-            return Err(Refusal::Lengths);
-        }
-        hold::<S>(limits, out);
-        Ok(())
+        self.hand(limits, out)
     }
 }

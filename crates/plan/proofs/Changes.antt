@@ -4,20 +4,17 @@ use lib.Signed.{lt_z}
 use Rattle.scale.specs.Algebra.{Algebra}
 use Rattle.network.specs.Networks.{Meaning}
 use Rattle.network.specs.Checks.{accepted, refused, Check, check, Checked}
-use Rattle.model.specs.declared.Bench.{Bench}
-use Rattle.model.specs.declared.State.{State}
-use Rattle.model.specs.declared.State.TheVariants.{Open, Impossible}
+use Rattle.model.specs.declared.bench.Bench.{Bench}
+use Rattle.model.specs.declared.state.State.{State}
+use Rattle.model.specs.declared.state.State.TheVariants.{Open, Impossible}
 use Rattle.model.specs.Plans.{Hall, Model}
 use Rattle.model.specs.Sheets.{window, fresh_bench, own_sheet, fresh, alter, put_both}
 use Rattle.model.specs.Calls.{no_bench, NoBench, table_of, bench_of, change_at, in_state, ceiling_checks, floor_checks, window_value_checks, wider_checks, lower_bench, raise_bench, Changes, Lowered, Raised, Loosened}
 use Rattle.model.proofs.Steps.{sheet_change}
 use Rattle.benches.specs.Records.{renew_bench}
 
-abbrev pub hall : Meaning → List Bench → Hall
-hall m bs = record { network = m; table = bs }
-
-abbrev pub plan : Meaning → Meaning → List Bench → List Bench → State → Model
-plan a b ls rs t = record { left = hall a ls; right = hall b rs; state = t }
+abbrev pub plan : Hall → Hall → State → Model
+plan l r t = record { left = l; right = r; state = t }
 
 -- ---- one record in the place of another
 
@@ -26,21 +23,16 @@ alter_set i f [] d = refl
 alter_set zero f (x ∷ xs) d = refl
 alter_set {A} (suc i) f (x ∷ xs) d = ap {B = List A} (λ r. x ∷ r) (alter_set i f xs d)
 
-pub put_left : (a b : Meaning) (ls rs after : List Bench) (t : State) (s i : ℕ) (row : Bench) → s ≡ 0 → after ≡ set ls i row →
-    plan a b after rs t ≡ change_at (plan a b ls rs t) s i (λ _. row)
-put_left a b ls rs after t zero i row z e = ap (λ (l : List Bench). plan a b l rs t) (e ∙ sym (alter_set i (λ _. row) ls no_bench))
-put_left a b ls rs after t (suc s) i row z e = absurd (omega arith)
+pub put_left : (l r l' : Hall) (t : State) (s i : ℕ) (row : Bench) → s ≡ 0 → l'.network ≡ l.network → l'.table ≡ set l.table i row →
+    plan l' r t ≡ change_at (plan l r t) s i (λ _. row)
+put_left l r l' t zero i row z m e = ap₂ (λ (n : Meaning) (bs : List Bench). plan (record { network = n; table = bs }) r t) m (e ∙ sym (alter_set i (λ _. row) l.table no_bench))
+put_left l r l' t (suc s) i row z m e = absurd (omega arith)
 
-pub put_right : (a b : Meaning) (ls rs after : List Bench) (t : State) (s i : ℕ) (row : Bench) → s ≡ 1 → after ≡ set rs i row →
-    plan a b ls after t ≡ change_at (plan a b ls rs t) s i (λ _. row)
-put_right a b ls rs after t zero i row z e = absurd (omega arith)
-put_right a b ls rs after t (suc zero) i row z e = ap (λ (r : List Bench). plan a b ls r t) (e ∙ sym (alter_set i (λ _. row) rs no_bench))
-put_right a b ls rs after t (suc (suc s)) i row z e = absurd (omega arith)
-
-pub put_none : (p : Model) (s i : ℕ) (row : Bench) → ¬ (s ≡ 0) → ¬ (s ≡ 1) → p ≡ change_at p s i (λ _. row)
-put_none p zero i row m n = absurd (m refl)
-put_none p (suc zero) i row m n = absurd (n refl)
-put_none p (suc (suc s)) i row m n = refl
+pub put_right : (l r r' : Hall) (t : State) (s i : ℕ) (row : Bench) → s ≡ 1 → r'.network ≡ r.network → r'.table ≡ set r.table i row →
+    plan l r' t ≡ change_at (plan l r t) s i (λ _. row)
+put_right l r r' t zero i row z m e = absurd (omega arith)
+put_right l r r' t (suc zero) i row z m e = ap₂ (λ (n : Meaning) (bs : List Bench). plan l (record { network = n; table = bs }) t) m (e ∙ sym (alter_set i (λ _. row) r.table no_bench))
+put_right l r r' t (suc (suc s)) i row z m e = absurd (omega arith)
 
 -- ---- the same by a function of the record that stood there
 
@@ -48,8 +40,8 @@ alter_at : (i : ℕ) (f : Bench → Bench) (bs : List Bench) → alter i (λ _. 
 alter_at i f bs = alter_set i (λ _. f (get_or bs i no_bench)) bs no_bench ∙ sym (alter_set i f bs no_bench)
 
 change_by : (p : Model) (s i : ℕ) (f : Bench → Bench) → change_at p s i (λ _. f (bench_of p s i)) ≡ change_at p s i f
-change_by p zero i f = ap (λ (l : List Bench). plan p.left.network p.right.network l p.right.table p.state) (alter_at i f p.left.table)
-change_by p (suc zero) i f = ap (λ (l : List Bench). plan p.left.network p.right.network p.left.table l p.state) (alter_at i f p.right.table)
+change_by p zero i f = ap (λ (l : List Bench). plan (record { network = p.left.network; table = l }) p.right p.state) (alter_at i f p.left.table)
+change_by p (suc zero) i f = ap (λ (l : List Bench). plan p.left (record { network = p.right.network; table = l }) p.state) (alter_at i f p.right.table)
 change_by p (suc (suc s)) i f = refl
 
 changed : (p p' : Model) (s i : ℕ) (b row : Bench) (f : Bench → Bench) (t t' : State) → b ≡ bench_of p s i → row ≡ f b → p' ≡ change_at p s i (λ _. row) → t ≡ t' →
@@ -100,5 +92,7 @@ map_renew : (bs : List Bench) → map renew_bench bs ≡ map fresh_bench (map wi
 map_renew [] = refl
 map_renew (b ∷ bs) = ap (λ (z : List Bench). renew_bench b ∷ z) (map_renew bs)
 
-pub restarted : (a b : Meaning) (ls rs ls' rs' : List Bench) (t : State) → ls' ≡ map renew_bench ls → rs' ≡ map renew_bench rs → plan a b ls' rs' Open ≡ fresh (own_sheet (plan a b ls rs t))
-restarted a b ls rs ls' rs' t e f = ap₂ (λ (x y : List Bench). plan a b x y Open) (e ∙ map_renew ls) (f ∙ map_renew rs)
+pub restarted : (a b : Meaning) (ls rs ls' rs' : List Bench) (t : State) → ls' ≡ map renew_bench ls → rs' ≡ map renew_bench rs →
+    plan (record { network = a; table = ls' }) (record { network = b; table = rs' }) Open ≡ fresh (own_sheet (plan (record { network = a; table = ls }) (record { network = b; table = rs }) t))
+restarted a b ls rs ls' rs' t e f =
+    ap₂ (λ (x y : List Bench). plan (record { network = a; table = x }) (record { network = b; table = y }) Open) (e ∙ map_renew ls) (f ∙ map_renew rs)

@@ -1,7 +1,7 @@
 -- What an advance says for itself. Assumes nothing.
 use Rattle.std.specs.Prelude.{ℕ, pos, ◌<ℤ◌}
 use Rattle.scale.specs.Algebra.{Algebra}
-use Rattle.model.specs.declared.State.{State}
+use Rattle.model.specs.declared.state.State.{State}
 use Rattle.model.specs.Plans.{Model, slack}
 use Rattle.model.specs.Calls.{Advanced}
 use Rattle.model.specs.Runs.{advance, advanced, History, ◌then◌, Run, Granted, Lawful}

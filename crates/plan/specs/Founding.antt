@@ -1,9 +1,9 @@
 -- What founding a plan answers. Assumes nothing.
 use Rattle.std.specs.Prelude.{◌≡◌, List, Ok, Err, Result}
-use Rattle.scale.specs.Algebra.{Algebra}
-use Rattle.network.specs.Networks.{Meaning}
+use Rattle.scale.specs.declared.scale.Scale.{Ghosts as ScaleGhosts}
 use Rattle.network.specs.Checks.{refused, Checked}
-use Rattle.model.specs.declared.Window.{Window}
+use Rattle.network.specs.declared.network.Network.{Ghosts as NetworkGhosts}
+use Rattle.model.specs.declared.bench.Window.{Window}
 use Rattle.model.specs.Calls.{found_checks, Founded}
 use Rattle.benches.specs.Answers.{told}
 use Rattle.plan.specs.declared.plan.Plan.{Plan}
@@ -11,6 +11,9 @@ use Rattle.plan.specs.declared.founding.Unfounded.{Unfounded}
 use Rattle.plan.specs.Models.{model}
 
 -- a plan at a fresh start; or the first fault, and both networks back
-abbrev pub Founds : {L R : Type 0} → Algebra → (L → Meaning) → (R → Meaning) → L → R → List Window → List Window → Result (Plan L R) (Unfounded L R) → Type 0
-Founds σ a b l r lws rws (Ok p) = Founded σ (a l) (b r) lws rws (model a b p)
-Founds σ a b l r lws rws (Err u) = Checked (found_checks σ (a l) (b r) lws rws) (refused (told u.fault)) × (u.left ≡ l) × (u.right ≡ r)
+abbrev pub Founds :
+    {L R S : Type 0} {a : NetworkGhosts L S} {s : ScaleGhosts S} {b : NetworkGhosts R S} → L → R → List Window → List Window
+    → Result (Plan L R S a s b) (Unfounded L R) → Type 0
+Founds {a = a} {s = s} {b = b} l r lws rws (Ok p) = Founded s.algebra (a.meaning l) (b.meaning r) lws rws (model p)
+Founds {a = a} {s = s} {b = b} l r lws rws (Err u) =
+    Checked (found_checks s.algebra (a.meaning l) (b.meaning r) lws rws) (refused (told u.fault)) × (u.left ≡ l) × (u.right ≡ r)

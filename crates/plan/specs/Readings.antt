@@ -1,12 +1,19 @@
 -- What readings tell. Assumes nothing.
-use Rattle.std.specs.Prelude.{◌≡◌, ℕ, List, length, ℤ, Ok, Err, Result}
+use Rattle.std.specs.Prelude.{◌≡◌, ℕ, ◌<◌, List, length, ℤ, Ok, Err, Result}
 use Rattle.network.specs.declared.refusal.Refusal.{Refusal}
 use Rattle.network.specs.Checks.{Checked}
-use Rattle.model.specs.declared.Window.{Window}
+use Rattle.network.specs.Refusals.{number}
+use Rattle.model.specs.declared.bench.Bench.{Bench}
+use Rattle.model.specs.declared.bench.Window.{Window}
 use Rattle.model.specs.Plans.{Model, starts}
 use Rattle.model.specs.Sheets.{window}
-use Rattle.model.specs.Calls.{bench_of, place_checks, starts_checks}
+use Rattle.model.specs.Calls.{table_of, bench_of, NoBench, place_checks, starts_checks}
 use Rattle.benches.specs.Answers.{answer}
+
+-- the record of a bench, or 10 where there is no such bench
+abbrev pub BenchAt : Model → ℕ → ℕ → Result Bench Refusal → Type 0
+BenchAt p s i (Ok b) = (i < length (table_of p s)) × (b ≡ bench_of p s i)
+BenchAt p s i (Err e) = (number e ≡ 10) × NoBench p s i
 
 abbrev pub told_window : Model → ℕ → ℕ → Result Window Refusal → Type 0
 told_window p s i (Ok w) = w ≡ window (bench_of p s i)

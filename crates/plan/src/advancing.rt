@@ -1,7 +1,7 @@
 // Granted rounds.
-ghost use Rattle.std.specs.Prelude.{◌≡◌, ◌+◌, ◌<◌, MatchBool, ◌≢◌};
+ghost use Rattle.std.specs.Prelude.{◌≡◌, ◌+◌, ◌-◌, ◌^◌, ◌<◌, MatchBool, ◌≢◌};
 ghost use Rattle.model.specs.Calls.{Advanced};
-ghost use Rattle.plan.specs.Models.{model, Fitting};
+ghost use Rattle.plan.specs.Models.{model};
 ghost use Rattle.plan.specs.Advances.{AfterEveryRun};
 
 use crate::plan::Plan;
@@ -9,10 +9,11 @@ use model::State;
 use network::Network;
 
 impl<L: Network, R: Network<Over = L::Over>> Plan<L, R> {
-    // Makes rounds until a verdict falls, at most `grant`. The state, and how many were made.
+    // Makes rounds until a verdict falls, at most `grant`. The state, and how many were made. By a rule of the project a loop that
+    // breaks with both, and not a `for` over the grant.
     pub fn advance(&mut self, grant: u64) -> (State, u64)
-        ensures advanced { Fitting (model L.Network.meaning R.Network.meaning self.old) → Advanced (model L.Network.meaning R.Network.meaning self.old) grant result.0 result.1 (model L.Network.meaning R.Network.meaning self.new) }
-        ensures foretold { AfterEveryRun L.Over.Scale.algebra (model L.Network.meaning R.Network.meaning self.old) grant result.0 result.1 (model L.Network.meaning R.Network.meaning self.new) }
+        ensures advanced { Advanced (model self.old) grant result.0 result.1 (model self.new) }
+        ensures foretold { AfterEveryRun L.Over.Scale.algebra (model self.old) grant result.0 result.1 (model self.new) }
     {
         let mut made = 0;
         'rounds: loop {
@@ -36,7 +37,7 @@ fn is_used(made: u64, grant: u64) -> bool
 }
 
 fn one_more(made: u64) -> u64
-    requires { made < 18446744073709551615 }
+    requires { made < 2 ^ 64 - 1 }
     ensures { result ≡ made + 1 }
 {
     made + 1

@@ -1,6 +1,7 @@
 // Another network in a plan, and starts taken as ceilings.
+ghost use Rattle.network.specs.Checks.{Checked};
 ghost use Rattle.model.specs.Sheets.{the_left, the_right};
-ghost use Rattle.model.specs.Calls.{Exchanged, Adopted};
+ghost use Rattle.model.specs.Calls.{same_size_checks, Exchanged, Adopted};
 ghost use Rattle.benches.specs.Answers.{answer};
 ghost use Rattle.plan.specs.Models.{model};
 ghost use Rattle.plan.specs.Exchanges.{exchange_answer, Back};
@@ -13,59 +14,49 @@ use network::{Network, Refusal};
 impl<L: Network, R: Network<Over = L::Over>> Plan<L, R> {
     // Puts another network in the place of the left one, which comes back, and makes a fresh start: 12, with the offered one.
     pub fn exchange_left(&mut self, network: L) -> Result<L, Unexchanged<L>>
-        ensures call { Exchanged (model L.Network.meaning R.Network.meaning self.old) the_left (L.Network.meaning network) (exchange_answer result) (model L.Network.meaning R.Network.meaning self.new) }
-        ensures back { Back self.old.left network result }
+        ensures call { Exchanged (model self.old) the_left (L.Network.meaning network) (exchange_answer result) (model self.new) }
+        ensures back { Back self.old.left.network network result }
     {
-        if network.stations() != self.left.stations() {
-            return Err(Unexchanged {
-                refusal: Refusal::Lengths,
-                network,
-            });
-        }
-        if network.benches() != self.left.benches() {
-            return Err(Unexchanged {
-                refusal: Refusal::Lengths,
-                network,
-            });
-        }
-        let old = std::mem::replace(&mut self.left, network);
+        let network = sized_as(&self.left.network, network)?;
+        let old = std::mem::replace(&mut self.left.network, network);
         self.restart();
         Ok(old)
     }
 
-    // The same for the right network.
+    // The same for the right network, which may be of another type: so each side has a call of its own.
     pub fn exchange_right(&mut self, network: R) -> Result<R, Unexchanged<R>>
-        ensures call { Exchanged (model L.Network.meaning R.Network.meaning self.old) the_right (R.Network.meaning network) (exchange_answer result) (model L.Network.meaning R.Network.meaning self.new) }
-        ensures back { Back self.old.right network result }
+        ensures call { Exchanged (model self.old) the_right (R.Network.meaning network) (exchange_answer result) (model self.new) }
+        ensures back { Back self.old.right.network network result }
     {
-        if network.stations() != self.right.stations() {
-            return Err(Unexchanged {
-                refusal: Refusal::Lengths,
-                network,
-            });
-        }
-        if network.benches() != self.right.benches() {
-            return Err(Unexchanged {
-                refusal: Refusal::Lengths,
-                network,
-            });
-        }
-        let old = std::mem::replace(&mut self.right, network);
+        let network = sized_as(&self.right.network, network)?;
+        let old = std::mem::replace(&mut self.right.network, network);
         self.restart();
         Ok(old)
     }
 
     // Sets every ceiling to its start: 14.
     pub fn adopt(&mut self) -> Result<(), Refusal>
-        ensures { Adopted (model L.Network.meaning R.Network.meaning self.old) (answer result) (model L.Network.meaning R.Network.meaning self.new) }
+        ensures { Adopted (model self.old) (answer result) (model self.new) }
     {
-        match self.state {
-            State::InStep => {
-                self.lefts.adopt();
-                self.rights.adopt();
-                Ok(())
-            }
-            State::Open | State::Impossible => Err(Refusal::NotInStep),
+        if self.state != State::InStep {
+            return Err(Refusal::NotInStep);
         }
+        self.left.benches.adopt();
+        self.right.benches.adopt();
+        Ok(())
     }
+}
+
+// The offered network, or 12 where its stations or benches are not as many as those of the one that stands there.
+fn sized_as<M: Network, N: Network>(stands: &M, offered: N) -> Result<N, Unexchanged<N>>
+    ensures sizes { Checked (same_size_checks (M.Network.meaning stands.now) (N.Network.meaning offered)) (exchange_answer result) }
+    ensures back { Back offered offered result }
+{
+    if offered.stations() != stands.stations() || offered.benches() != stands.benches() {
+        return Err(Unexchanged {
+            refusal: Refusal::Lengths,
+            network: offered,
+        });
+    }
+    Ok(offered)
 }

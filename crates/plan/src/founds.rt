@@ -6,7 +6,7 @@ ghost use Rattle.plan.specs.Founding.{Founds};
 
 use crate::founding::Unfounded;
 use crate::plan::Plan;
-use benches::{Benches, Fault, check_windows};
+use benches::{Benches, Fault, Hall, check_windows};
 use model::{State, Window};
 use network::{Network, Refusal};
 
@@ -19,22 +19,28 @@ impl<L: Network, R: Network<Over = L::Over>> Plan<L, R> {
         lefts: &[Window],
         rights: &[Window],
     ) -> Result<Plan<L, R>, Unfounded<L, R>>
-        ensures { Founds L.Over.Scale.algebra L.Network.meaning R.Network.meaning left right lefts.now rights.now result }
+        ensures { Founds left right lefts.now rights.now result }
     {
+        // not `map_err`: the networks go back only beside the fault, and into the plan otherwise
         if let Err(fault) = check_found(&left, &right, lefts, rights) {
             return Err(Unfounded { fault, left, right });
         }
         Ok(Plan {
-            left,
-            right,
-            lefts: Benches::fresh(lefts),
-            rights: Benches::fresh(rights),
+            left: Hall {
+                network: left,
+                benches: Benches::fresh(lefts),
+            },
+            right: Hall {
+                network: right,
+                benches: Benches::fresh(rights),
+            },
             state: State::Open,
         })
     }
 }
 
-// The first fault of what a plan is to be founded on.
+// The first fault of what a plan is to be founded on. The four arguments stay apart: the call takes them so, and a struct would
+// only be taken apart again.
 fn check_found<L: Network, R: Network<Over = L::Over>>(
     left: &L,
     right: &R,
@@ -57,18 +63,14 @@ fn check_sizes<L: Network, R: Network<Over = L::Over>>(
 ) -> Result<(), Fault>
     ensures { Checked (size_checks (L.Network.meaning left.now) (R.Network.meaning right.now) lefts.now rights.now) (window_answer result) }
 {
-    let fault = Fault {
-        refusal: Refusal::Lengths,
-        place: None,
-    };
-    if left.stations() != right.stations() {
-        return Err(fault);
-    }
-    if lefts.len() != left.benches() {
-        return Err(fault);
-    }
-    if rights.len() != right.benches() {
-        return Err(fault);
+    if left.stations() != right.stations()
+        || lefts.len() != left.benches()
+        || rights.len() != right.benches()
+    {
+        return Err(Fault {
+            refusal: Refusal::Lengths,
+            place: None,
+        });
     }
     Ok(())
 }

@@ -1,43 +1,44 @@
 // One bench of a plan, and a fresh start.
 ghost use Rattle.std.specs.Prelude.{◌≡◌};
 ghost use Rattle.model.specs.Sheets.{own_sheet, fresh};
-ghost use Rattle.model.specs.Calls.{table_of, change_at};
-ghost use Rattle.benches.specs.Records.{Got};
+ghost use Rattle.model.specs.Calls.{change_at};
 ghost use Rattle.plan.specs.Models.{model};
+ghost use Rattle.plan.specs.Readings.{BenchAt};
 
 use crate::plan::Plan;
-use model::{Bench, State};
-use network::Network;
+use model::{Bench, Place, State};
+use network::{Network, Refusal};
 
 impl<L: Network, R: Network<Over = L::Over>> Plan<L, R> {
-    // The record of a bench.
-    pub(crate) fn bench(&self, side: usize, bench: usize) -> Option<Bench>
-        ensures { Got (table_of (model L.Network.meaning R.Network.meaning self.now) side) bench result }
+    // The record of a bench, or 10. A side is a number: the calls take it so, and refuse one that is no side.
+    pub(crate) fn bench(&self, place: Place) -> Result<Bench, Refusal>
+        ensures { BenchAt (model self.now) place.side place.bench result }
     {
-        match side {
-            0 => self.lefts.get(bench),
-            1 => self.rights.get(bench),
+        let b = match place.side {
+            0 => self.left.benches.get(place.bench),
+            1 => self.right.benches.get(place.bench),
             _ => None,
-        }
+        };
+        b.ok_or(Refusal::Place)
     }
 
     // Puts another record in the place of a bench's.
-    pub(crate) fn put(&mut self, side: usize, bench: usize, row: Bench)
-        ensures { model L.Network.meaning R.Network.meaning self.new ≡ change_at (model L.Network.meaning R.Network.meaning self.old) side bench (λ _. row) }
+    pub(crate) fn put(&mut self, place: Place, row: Bench)
+        ensures { model self.new ≡ change_at (model self.old) place.side place.bench (λ _. row) }
     {
-        match side {
-            0 => self.lefts.put(bench, row),
-            1 => self.rights.put(bench, row),
+        match place.side {
+            0 => self.left.benches.put(place.bench, row),
+            1 => self.right.benches.put(place.bench, row),
             _ => (),
         }
     }
 
     // Every start at its ceiling, and the plan open.
     pub(crate) fn restart(&mut self)
-        ensures { model L.Network.meaning R.Network.meaning self.new ≡ fresh (own_sheet (model L.Network.meaning R.Network.meaning self.old)) }
+        ensures { model self.new ≡ fresh (own_sheet (model self.old)) }
     {
-        self.lefts.renew();
-        self.rights.renew();
+        self.left.benches.renew();
+        self.right.benches.renew();
         self.state = State::Open;
     }
 }

@@ -1,13 +1,15 @@
 // A plan.
-use benches::Benches;
-use model::State;
+ghost use Rattle.std.specs.Prelude.{◌≡◌};
 
-// A left and a right network, and the benches of each.
+use benches::Hall;
+use model::State;
+use network::Network;
+
+// A left and a right hall over one scale, with equal numbers of stations.
 #[derive(Drop)]
-pub struct Plan<L, R> {
-    pub(crate) left: L,
-    pub(crate) right: R,
-    pub(crate) lefts: Benches,
-    pub(crate) rights: Benches,
+pub struct Plan<L: Network, R: Network<Over = L::Over>> {
+    pub(crate) left: Hall<L>,
+    pub(crate) right: Hall<R>,
     pub(crate) state: State,
+    ghost level: { (L.Network.meaning left.network).stations ≡ (R.Network.meaning right.network).stations },
 }

@@ -1,35 +1,31 @@
 // One round.
 ghost use Rattle.std.specs.Prelude.{◌≡◌, ◌&&◌, ◌||◌};
 ghost use Rattle.model.specs.Plans.{round, verdict};
-ghost use Rattle.benches.specs.Records.{records};
-ghost use Rattle.benches.specs.Halves.{CutBy};
-ghost use Rattle.plan.specs.Models.{model, Fitting};
+ghost use Rattle.benches.specs.Halves.{hall, CutBy};
+ghost use Rattle.plan.specs.Models.{model};
 
 use crate::plan::Plan;
-use benches::cut_by;
 use model::State;
 use network::Network;
 
 impl<L: Network, R: Network<Over = L::Over>> Plan<L, R> {
     // Cuts the right starts by the left arrivals, then the left starts by the new right arrivals, and tells the verdict.
     pub(crate) fn round(&mut self)
-        ensures { Fitting (model L.Network.meaning R.Network.meaning self.old) → model L.Network.meaning R.Network.meaning self.new ≡ round (model L.Network.meaning R.Network.meaning self.old) }
+        ensures { model self.new ≡ round (model self.old) }
     {
         let (lefts_rest, rights_rest) = self.cut_both();
-        let left_fell = self.lefts.is_fallen();
-        let right_fell = self.rights.is_fallen();
+        let left_fell = self.left.benches.is_fallen();
+        let right_fell = self.right.benches.is_fallen();
         self.state = verdict_of(left_fell, right_fell, lefts_rest, rights_rest);
     }
 
     // Both halves of a round. Says of each side whether no start of it changed.
     fn cut_both(&mut self) -> (bool, bool)
-        ensures right { CutBy (L.Network.meaning self.old.left) (records self.old.lefts) (R.Network.meaning self.old.right) (records self.old.rights) (records self.new.rights) result.1 }
-        ensures left { CutBy (R.Network.meaning self.old.right) (records self.new.rights) (L.Network.meaning self.old.left) (records self.old.lefts) (records self.new.lefts) result.0 }
-        ensures left_network { self.new.left ≡ self.old.left }
-        ensures right_network { self.new.right ≡ self.old.right }
+        ensures right { CutBy (hall self.old.left) (hall self.old.right) (hall self.new.right) result.1 }
+        ensures left { CutBy (hall self.new.right) (hall self.old.left) (hall self.new.left) result.0 }
     {
-        let rights_rest = cut_by(&self.left, &self.lefts, &self.right, &mut self.rights);
-        let lefts_rest = cut_by(&self.right, &self.rights, &self.left, &mut self.lefts);
+        let rights_rest = self.right.cut_by(&self.left);
+        let lefts_rest = self.left.cut_by(&self.right);
         (lefts_rest, rights_rest)
     }
 }

@@ -1,5 +1,5 @@
 -- Bits of a map. Assumes nothing.
-use Rattle.std.proofs.Common.{◌≡◌, ℕ, zero, suc, ◌+◌, ◌*◌, ◌/◌, ◌%◌, ◌^◌, ◌<◌, ◌≤◌, Bool, true, false, not, eqb, List, [], ◌∷◌, ◌++◌, replicate, ℤ, Some, None, Option, sym, refl, ap, ◌∙◌, ⊎_elim, pow-suc, one-add, arith}
+use Rattle.std.proofs.Common.{◌≡◌, ℕ, zero, suc, ◌+◌, ◌*◌, ◌/◌, ◌%◌, ◌^◌, ◌<◌, ◌≤◌, Bool, true, false, not, eqb, List, [], ◌∷◌, ◌++◌, replicate, ℤ, Some, None, Option, sym, refl, ap, ◌∙◌, ⊎_elim, pow-suc, one-add, arith, pow_mono}
 use lib.Count.{count_trailing_zeros, under}
 use Rattle.std.proofs.lemmas.List.{append_assoc, append-nil}
 use Rattle.std.proofs.lemmas.Nat.{pow_pos, shr_split, div_below, mod_below, shr-shr}
@@ -14,6 +14,9 @@ use Rattle.planfile.specs.Rows.{cells}
 pub below_pow : (m n : ℕ) → m / 2 ^ n ≡ 0 → m < 2 ^ n
 below_pow m n e =
     let s : 0 * 2 ^ n + m % 2 ^ n ≡ m = rw e at (shr_split m n) in omega (arith, mod_below m (2 ^ n) (pow_pos n))
+
+pub none_above : (m k n : ℕ) → m < 2 ^ k → k ≤ n → m / 2 ^ n ≡ 0
+none_above m k n h l = omega (arith, div_below m (2 ^ n) 1 (pow_pos n) (omega (arith, pow_mono l)))
 
 pub above_pow : (m n : ℕ) → (m / 2 ^ n ≡ 0 → ⊥) → 2 ^ n ≤ m
 above_pow m n h =

@@ -1,8 +1,6 @@
 -- Bytes of the head, one after another. Assumes nothing.
-use Rattle.std.proofs.Common.{◌≡◌, ℕ, ◌+◌, ◌<◌, ◌≤◌, true, false, cond, List, length, get_or, IfOk, Err, Result, sym, ap, ◌∙◌, subst, add-zero, zero-add, arith}
+use Rattle.std.proofs.Common.{◌≡◌, ℕ, ◌+◌, ◌<◌, ◌≤◌, true, false, cond, List, length, get_or, Err, Result, sym, ap, ◌∙◌, add-zero, zero-add, arith}
 use Rattle.network.specs.declared.refusal.Refusal.{Refusal}
-use Rattle.std.proofs.lemmas.Bool.Decides.{nat_tests}
-use Rattle.network.specs.Networks.{Size}
 use Rattle.network.specs.declared.refusal.Refusal.TheVariants.{Ends, Edition, UnknownScale, Size as WrongSize}
 use Rattle.layout.specs.declared.faults.ByteFault.{ByteFault}
 use Rattle.layout.specs.Faults.{fault}
@@ -10,6 +8,8 @@ use Rattle.layout.specs.Layouts.{reached, refused, Layout, gives, fails, reads, 
 use Rattle.layout.proofs.Outcomes.{goes_on, stops, reads_gives, reads_fails, reads_whole, reads_short}
 use Rattle.layout.specs.Reading.{outcome}
 use Rattle.planfile.specs.declared.heads.Head.{Head}
+use Rattle.planfile.specs.declared.heads.SoundHead.{SoundHead}
+use Rattle.planfile.specs.Sound.{plain}
 use Rattle.planfile.specs.Heads.{one_to, kind, head_of}
 
 module _ {A : Type 0} (file : List ℕ) (p n : ℕ) (e : Refusal) (more : ℕ → Layout ByteFault A) where
@@ -83,11 +83,5 @@ module _ (file : List ℕ) where
 
 -- ---- what is answered
 
-pub told_fault : (file : List ℕ) (r : Result Head ByteFault) (f : ByteFault) → r ≡ Err f → reads head_of file 0 ≡ refused f → outcome (λ h. h) r 5 ≡ reads head_of file 0
-told_fault file r f e h = ap (λ z. outcome (λ h. h) z 5) e ∙ sym h
-
-pub none_made : {T E : Type 0} (r : Result T E) (f : E) (P : T → Type 0) → r ≡ Err f → IfOk r P
-none_made {T} {E} r f P e = subst (λ (z : Result T E). IfOk z P) (sym e) tt
-
-pub a_size : (v : ℕ) → one_to 32 v ≡ true → Size v
-a_size v h = record { some = grind (arith, nat_tests); few = grind (arith, nat_tests) }
+pub told_fault : (file : List ℕ) (r : Result SoundHead ByteFault) (f : ByteFault) → r ≡ Err f → reads head_of file 0 ≡ refused f → outcome plain r 5 ≡ reads head_of file 0
+told_fault file r f e h = ap (λ z. outcome plain z 5) e ∙ sym h

@@ -2,7 +2,6 @@ mod Bits
 mod Turns
 mod Lines
 mod HeadBytes
-mod Bodies
 mod Whole
 mod ByWriting
 mod Skips

@@ -3,7 +3,7 @@ use Rattle.std.proofs.Common.{◌≡◌, ℕ, suc, List, [], ◌∷◌, ◌++◌
 use Rattle.layout.specs.declared.bounds.Bounds.{Bounds}
 use Rattle.layout.specs.Faults.{on_line}
 use Rattle.layout.specs.Layouts.{gives, then, told}
-use Rattle.model.specs.declared.Window.{Window}
+use Rattle.model.specs.declared.bench.Window.{Window}
 use Rattle.planfile.specs.Rows.{row_of}
 use Rattle.planfile.specs.Windows.{window_of}
 use Rattle.planfile.specs.Parts.{rows_of, windows_of}

@@ -1,19 +1,14 @@
 -- Fields that are passed over. Assumes nothing.
-use Rattle.std.proofs.Common.{◌≡◌, ℕ, zero, suc, ◌+◌, ◌-◌, ◌*◌, ◌/◌, ◌^◌, ◌<◌, ◌≤◌, ltb, List, length, Ok, Err, Result, sym, refl, ap, ◌∙◌, ⊎_elim, arith}
+use Rattle.std.proofs.Common.{◌≡◌, ℕ, zero, suc, ◌+◌, ◌-◌, ◌*◌, ◌/◌, ◌^◌, ◌<◌, ◌≤◌, ltb, List, length, sym, ap, ◌∙◌, ⊎_elim, arith}
 use lib.Count.{ones}
-use Rattle.std.specs.Result.{result_map_both}
 use Rattle.std.proofs.lemmas.Bool.{cases_lt}
 use Rattle.network.specs.declared.refusal.Refusal.TheVariants.{Ends, Bit}
-use Rattle.layout.specs.declared.faults.ByteFault.{ByteFault}
-use Rattle.layout.specs.declared.faults.LineFault.{LineFault}
-use Rattle.layout.specs.declared.faults.FileFault.{FileFault}
-use Rattle.layout.specs.Faults.{fault, on_line, in_part}
-use Rattle.layout.specs.Layouts.{reads, reached, refused, then, told, number, gives, value}
+use Rattle.layout.specs.Faults.{fault}
+use Rattle.layout.specs.Layouts.{reads, reached, refused, then, number, gives, value}
 use Rattle.layout.proofs.Outcomes.{goes_on, stops, reads_gives, reads_whole, reads_short, then_reached}
 use Rattle.layout.proofs.Decided.{checked_end}
-use Rattle.layout.proofs.Steps.{ended, placed, kept}
 use Rattle.planfile.specs.Rows.{map_of}
-use Rattle.planfile.specs.Asks.{fields, asked_row, passing}
+use Rattle.planfile.specs.Asks.{fields, asked_row}
 
 word_read : (file : List ℕ) (p : ℕ) → p + 4 ≤ length file → reached (value file p 4) (p + 4) ≡ reads (number 4) file p
 unfolding number
@@ -62,22 +57,3 @@ asked_end n file p m q e =
     let q1 : q ≡ s.1 = cc in
     let o : ones m ≡ ones t.0 = ap ones m1 in
     (omega (arith, f.0), omega (arith, f.1))
-
--- ---- a row that came through as it was
-
-pub passed_row : (n line part : ℕ) (file : List ℕ) (p m q : ℕ) (r : Result (ℕ × ℕ) ByteFault) (l : Result (ℕ × ℕ) LineFault) →
-    passing r ≡ reads (asked_row n) file p → l ≡ result_map_both (λ (u : ℕ × ℕ). u) (on_line line) r → Ok (m, q) ≡ result_map_both (λ (u : ℕ × ℕ). u) (in_part part) l →
-    reached m q ≡ reads (asked_row n) file p
-passed_row n line part file p m q r l h e k =
-    let up = kept (in_part part) l (m, q) k in
-    let down = kept (on_line line) r (m, q) (sym up ∙ e) in
-    ap passing (sym down) ∙ h
-
-pub refused_row : (n line part : ℕ) (file : List ℕ) (p : ℕ) (f : FileFault) (r : Result (ℕ × ℕ) ByteFault) (l : Result (ℕ × ℕ) LineFault) →
-    passing r ≡ reads (asked_row n) file p → l ≡ result_map_both (λ (u : ℕ × ℕ). u) (on_line line) r → Err f ≡ result_map_both (λ (u : ℕ × ℕ). u) (in_part part) l →
-    reads (told (in_part part) (told (on_line line) (asked_row n))) file p ≡ refused f
-refused_row n line part file p f r l h e k = sym (placed (λ (u : ℕ × ℕ). u) (asked_row n) file p line part r l (Err f) (same r ∙ h) e k)
-  where
-    same : (r : Result (ℕ × ℕ) ByteFault) → ended (λ (u : ℕ × ℕ). u) r ≡ passing r
-    same (Ok u) = refl
-    same (Err f) = refl

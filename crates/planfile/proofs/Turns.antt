@@ -1,7 +1,9 @@
 -- One turn of the loop over a row's bits. Assumes nothing.
-use Rattle.std.proofs.Common.{◌≡◌, ℕ, suc, ◌+◌, ◌/◌, ◌^◌, ◌<◌, ◌≤◌, List, [], ◌∷◌, ◌++◌, length, take, set, replicate, ℤ, Some, None, Option, sym, ap, ◌∙◌, subst, arith}
+use Rattle.std.proofs.Common.{◌≡◌, ℕ, suc, ◌+◌, ◌/◌, ◌^◌, ◌<◌, ◌≤◌, List, [], ◌∷◌, ◌++◌, length, take, drop, set, replicate, ℤ, Some, None, Option, sym, ap, ◌∙◌, subst, arith}
+use Rattle.std.specs.List.{refill}
 use lib.Count.{count_trailing_zeros}
-use Rattle.std.proofs.lemmas.List.{append_assoc, length-append, length-replicate, length-take, set_at, replicate-append-replicate}
+use Rattle.std.proofs.lemmas.List.{append_assoc, length-append, length-replicate, length-set, set_at, replicate-append-replicate}
+use Rattle.std.proofs.Math.Seq.{take-append_seam}
 use Rattle.network.specs.declared.refusal.Refusal.TheVariants.{Coefficient}
 use Rattle.layout.specs.declared.bounds.Bounds.{Bounds}
 use Rattle.layout.specs.Layouts.{then}
@@ -16,35 +18,31 @@ Partly row done k = row ≡ done ++ replicate k None
 row_size : (row done : List (Option ℤ)) (k : ℕ) → Partly row done k → length row ≡ length done + k
 row_size row done k e = ap length e ∙ length-append done (replicate k None) ∙ ap (λ x. length done + x) (length-replicate k None)
 
--- the loop at a turn: `done` are the cells of the benches passed, and k benches are left, by the bits of `rest`
+-- a cell that is written through the row's slice
+pub written : (row : List (Option ℤ)) (at : ℕ) (c : Option ℤ) → refill (length row) row (set row at c) ≡ set row at c
+written row at c =
+    ap (λ n. take n (set row at c ++ drop (length (set row at c)) row)) (sym (length-set row at c)) ∙ take-append_seam (set row at c) (drop (length (set row at c)) row)
+
+-- the loop between two turns: `done` are the cells of the benches passed, and k benches are left, by the bits of `rest`
 pub record Turn (row : List (Option ℤ)) (bench rest : ℕ) : Type 0 where
   pub done : List (Option ℤ)
   pub k : ℕ
   pub shape : Partly row done k
   pub len : length done ≡ bench
   pub bits : rest < 2 ^ k
-  pub few : length row ≤ 32
-  pub some : rest ≡ 0 → ⊥
-
-abbrev pub turn : (n : ℕ) (row : List (Option ℤ)) (bench rest : ℕ) (done : List (Option ℤ)) (k : ℕ) → Partly (take n row) done k → length done ≡ bench → rest < 2 ^ k → n ≤ 32 →
-    (rest ≡ 0 → ⊥) → Turn (take n row) bench rest
-turn n row bench rest done k shape len bits few some = record { done = done; k = k; shape = shape; len = len; bits = bits; few = omega (arith, length-take n row); some = some }
 
 -- z bits come before the first that stands
-module _ (b : Bounds) (row : List (Option ℤ)) (bench rest z : ℕ) (t : Turn row bench rest) (gap : z ≡ count_trailing_zeros 32 rest) where
+module _ (b : Bounds) (row : List (Option ℤ)) (bench rest z : ℕ) (t : Turn row bench rest) (few : length row ≤ 32) (some : rest ≡ 0 → ⊥)
+    (gap : z ≡ count_trailing_zeros 32 rest) where
   pub bit : Next b t.k rest t.done z
-  bit = let some = t.some in subst (λ x. Next b t.k rest t.done x) (sym gap) (next_bit b 32 t.k rest t.done (omega arith) t.bits (omega (arith, row_size row t.done t.k t.shape, t.few)))
+  bit = subst (λ x. Next b t.k rest t.done x) (sym gap) (next_bit b 32 t.k rest t.done (omega arith) t.bits (omega (arith, row_size row t.done t.k t.shape)))
 
   pub place : bench + z < length row
   place = omega (arith, row_size row t.done t.k t.shape, bit.1, t.len)
 
   -- the cells after this turn
-  abbrev pub more : ℤ → List (Option ℤ)
+  abbrev more : ℤ → List (Option ℤ)
   more a = (t.done ++ replicate (z) None) ++ Some a ∷ []
-
-  -- what is left begins with the coefficient of the next bit
-  pub next : cells b t.k rest t.done ≡ then (number_in b Coefficient) (λ a. cells b bit.0 (rest / 2 ^ z / 2) (more a))
-  next = bit.4 ∙ cells_some b bit.0 _ _ bit.2
 
   size : length (t.done ++ replicate (z) None) ≡ bench + z
   size = length-append t.done (replicate (z) None) ∙ ap (λ x. length t.done + x) (length-replicate _ _) ∙ ap (λ x. x + z) t.len
@@ -62,3 +60,11 @@ module _ (b : Bounds) (row : List (Option ℤ)) (bench rest z : ℕ) (t : Turn r
       ap (λ x. set x (bench + z) (Some a)) (t.shape ∙ split)
       ∙ set_at (t.done ++ replicate z None) None (replicate j None) (Some a) (bench + z) size
       ∙ sym (append_assoc (t.done ++ replicate z None) (Some a ∷ []) (replicate j None))
+
+  -- the loop after this turn
+  abbrev pub turned : (a : ℤ) → Turn (set row (bench + z) (Some a)) (bench + z + 1) (rest / 2 ^ z / 2)
+  turned a = record { done = more a; k = bit.0; shape = more_row a; len = more_size a; bits = bit.3 }
+
+  -- what is left begins with the coefficient of the next bit
+  pub next : cells b t.k rest t.done ≡ then (number_in b Coefficient) (λ a. cells b (turned a).k (rest / 2 ^ z / 2) (turned a).done)
+  next = bit.4 ∙ cells_some b bit.0 _ _ bit.2

@@ -1,37 +1,24 @@
 -- The head, and then the body. Assumes nothing.
-use Rattle.std.proofs.Common.{◌≡◌, ℕ, List, length, Ok, Err, Result, sym, refl, ap, ◌∙◌}
-use Rattle.std.specs.Result.{result_map_both}
-use Rattle.layout.specs.declared.faults.ByteFault.{ByteFault}
-use Rattle.layout.specs.declared.faults.LineFault.{LineFault}
+use Rattle.std.proofs.Common.{◌≡◌, ℕ, List, length, Ok, Err, ap, ◌∙◌}
 use Rattle.layout.specs.declared.faults.FileFault.{FileFault}
-use Rattle.layout.specs.Faults.{on_line, in_part}
-use Rattle.layout.specs.Layouts.{reads, told}
+use Rattle.layout.specs.Layouts.{reads}
 use Rattle.layout.specs.Reading.{outcome}
 use Rattle.layout.proofs.Outcomes.{goes_on, stops}
-use Rattle.layout.proofs.Steps.{ended, placed}
-use Rattle.planfile.specs.declared.heads.Head.{Head}
+use Rattle.planfile.specs.declared.heads.SoundHead.{SoundHead}
 use Rattle.planfile.specs.declared.heads.ScaleKind.{ScaleKind}
-use Rattle.planfile.specs.Heads.{head_of}
+use Rattle.planfile.specs.Heads.{head_part}
 use Rattle.planfile.specs.Files.{coefficients, window_values, scale_of, body_of, body_by, file_of, closed, file_read}
+use Rattle.planfile.specs.Sound.{plain}
 
-same_end : (r : Result Head ByteFault) → ended (λ h. (h, 5)) r ≡ outcome (λ h. h) r 5
-same_end (Ok h) = refl
-same_end (Err f) = refl
-
-module _ (file : List ℕ) (r : Result Head ByteFault) (l : Result Head LineFault) (f : Result Head FileFault)
-    (read : outcome (λ h. h) r 5 ≡ reads head_of file 0) (lined : l ≡ result_map_both (λ (h : Head). h) (on_line 0) r) (parted : f ≡ result_map_both (λ (h : Head). h) (in_part 0) l) where
-  pub head_read : ended (λ h. (h, 5)) f ≡ reads (told (in_part 0) (told (on_line 0) head_of)) file 0
-  head_read = placed (λ h. (h, 5)) head_of file 0 0 0 r l f (same_end r ∙ read) lined parted
-
-  pub head_fault : (x : FileFault) → f ≡ Err x → file_read file ≡ Err x
+module _ (file : List ℕ) where
+  pub head_fault : (f : FileFault) → outcome plain (Err f) 5 ≡ reads head_part file 0 → file_read file ≡ Err f
   unfolding file_of
-  head_fault x e =
-      ap (closed (length file)) (stops (told (in_part 0) (told (on_line 0) head_of)) body_by file 0 x (ap (ended (λ h. (h, 5))) (sym e) ∙ head_read))
+  head_fault f e = ap (closed (length file)) (stops head_part body_by file 0 f e)
 
-  -- over the scale s of the head
-  pub head_then : (h : Head) (k : ScaleKind) → f ≡ Ok h → h.scale ≡ k →
-      file_read file ≡ closed (length file) (reads (body_of (coefficients (scale_of k)) (window_values (scale_of k)) h) file 5)
+  -- over the scale k of the head
+  pub head_then : (h : SoundHead) (k : ScaleKind) → outcome {F = FileFault} plain (Ok h) 5 ≡ reads head_part file 0 → h.scale ≡ k →
+      file_read file ≡ closed (length file) (reads (body_of (coefficients (scale_of k)) (window_values (scale_of k)) (plain h)) file 5)
   unfolding file_of
   head_then h k e s =
-      ap (closed (length file)) (goes_on (told (in_part 0) (told (on_line 0) head_of)) body_by file 0 h 5 (ap (ended (λ h. (h, 5))) (sym e) ∙ head_read)
-      ∙ ap (λ (z : ScaleKind). reads (body_of (coefficients (scale_of z)) (window_values (scale_of z)) h) file 5) s)
+      ap (closed (length file)) (goes_on head_part body_by file 0 (plain h) 5 e
+      ∙ ap (λ (z : ScaleKind). reads (body_of (coefficients (scale_of z)) (window_values (scale_of z)) (plain h)) file 5) s)

@@ -12,7 +12,7 @@ use Rattle.layout.specs.Layouts.{Layout, gives, fails, then, told}
 use Rattle.layout.specs.Numbers.{number_in}
 use Rattle.layout.specs.Writing.{bytes_of, Lays, no_field, one_field}
 use Rattle.layout.proofs.Laid.{gives_laid, fails_laid, then_lays, then_laid, told_lays, told_laid, decided_lays, decided_laid, one_byte}
-use Rattle.model.specs.declared.Window.{Window}
+use Rattle.model.specs.declared.bench.Window.{Window}
 use Rattle.planfile.specs.Windows.{has_floor, has_ceiling, limit, window, limits_of, window_of}
 use Rattle.planfile.specs.Parts.{windows_of}
 use Rattle.planfile.specs.Documents.{Limits, complement, map_number, numbers, window_written, windows_written, Bounded, filled, SoundWindows}

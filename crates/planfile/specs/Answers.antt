@@ -14,10 +14,10 @@ use Rattle.planfile.specs.Files.{Description, coefficients, window_values, body_
 use Rattle.planfile.specs.Documents.{Writes, FirstFault}
 use Rattle.planfile.specs.Handed.{Carries}
 
--- the body of a file with the head h, over the scale s
-abbrev pub BodyRead : {S : Type 0} → Algebra → List ℕ → Head → Result (Contents S) FileFault → Type 0
-BodyRead s file h (Ok c) = (d : Description) × (closed (length file) (reads (body_of (coefficients s) (window_values s) h) file 5) ≡ Ok d) × (d.head ≡ h) × Carries s d c
-BodyRead s file h (Err f) = closed (length file) (reads (body_of (coefficients s) (window_values s) h) file 5) ≡ Err f
+-- the body of a file with the head h, from offset p on, over the scale s
+abbrev pub BodyRead : {S : Type 0} → Algebra → List ℕ → ℕ → Head → Result (Contents S) FileFault → Type 0
+BodyRead s file p h (Ok c) = (d : Description) × (closed (length file) (reads (body_of (coefficients s) (window_values s) h) file p) ≡ Ok d) × (d.head ≡ h) × Carries s d c
+BodyRead s file p h (Err f) = closed (length file) (reads (body_of (coefficients s) (window_values s) h) file p) ≡ Err f
 
 -- the tables and windows that are described, over the scale that is described
 abbrev pub Hands : Description → PlanFile → Type 0

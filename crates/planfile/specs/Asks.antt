@@ -1,7 +1,7 @@
 -- A row that is asked for: its map and its fields are there, and no coefficient is looked at. Assumes nothing.
-use Rattle.std.specs.Prelude.{ℕ, zero, suc, Ok, Err, Result, count_ones}
+use Rattle.std.specs.Prelude.{ℕ, zero, suc, count_ones}
 use Rattle.layout.specs.declared.faults.ByteFault.{ByteFault}
-use Rattle.layout.specs.Layouts.{Layout, gives, then, number, Outcome, reached, refused}
+use Rattle.layout.specs.Layouts.{Layout, gives, then, number}
 use Rattle.planfile.specs.Rows.{map_of}
 
 -- k fields of four bytes
@@ -12,8 +12,3 @@ fields (suc k) = then (number 4) (λ _. fields k)
 -- the map of a row of n benches, with as many fields as bits stand in it
 abbrev pub asked_row : ℕ → Layout ByteFault ℕ
 asked_row n = then (map_of n) (λ m. then (fields (count_ones m)) (λ _. gives m))
-
--- a map, and the offset behind its row
-abbrev pub passing : {F : Type 0} → Result (ℕ × ℕ) F → Outcome F ℕ
-passing (Ok u) = reached u.0 u.1
-passing (Err f) = refused f

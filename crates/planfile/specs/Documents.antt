@@ -1,11 +1,11 @@
 -- A plan file by writing: what stands in it, field by field. Assumes nothing of how it is read.
-use Rattle.std.specs.Prelude.{◌≡◌, ℕ, ◌+◌, ◌-◌, ◌*◌, ◌<◌, ◌⊎◌, List, [], ◌∷◌, ◌++◌, map, length, ℤ, pos, negsuc, ◌≤ℤ◌, Some, None, Option}
+use Rattle.std.specs.Prelude.{◌≡◌, ℕ, ◌+◌, ◌-◌, ◌*◌, ◌^◌, ◌<◌, ◌⊎◌, List, [], ◌∷◌, ◌++◌, map, length, ℤ, pos, negsuc, ◌≤ℤ◌, Some, None, Option}
 use Rattle.std.specs.Option.{unwrap_or}
 use Rattle.network.specs.Networks.{Size}
 use Rattle.layout.specs.declared.bounds.Bounds.{Bounds}
 use Rattle.layout.specs.declared.faults.FileFault.{FileFault}
 use Rattle.layout.specs.Writing.{bytes_of, Breaks}
-use Rattle.model.specs.declared.Window.{Window}
+use Rattle.model.specs.declared.bench.Window.{Window}
 use Rattle.planfile.specs.declared.heads.ScaleKind.{ScaleKind}
 use Rattle.planfile.specs.declared.heads.ScaleKind.TheVariants.{Minutes, Grades}
 use Rattle.planfile.specs.Windows.{window}
@@ -29,7 +29,7 @@ pub record Document : Type 0 where
 -- a number in two's complement of 32 bits
 abbrev pub complement : ℤ → ℕ
 complement (pos n) = n
-complement (negsuc n) = 4294967295 - n
+complement (negsuc n) = 2 ^ 32 - 1 - n
 
 -- which of the things are there: the first is worth 1, the next 2, and so on
 abbrev pub map_number : List (Option ℤ) → ℕ

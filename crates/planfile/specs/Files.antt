@@ -6,13 +6,14 @@ use Rattle.scale.specs.Grades.{grades}
 use Rattle.network.specs.declared.refusal.Refusal.TheVariants.{Extra}
 use Rattle.layout.specs.declared.bounds.Bounds.{Bounds}
 use Rattle.layout.specs.declared.faults.FileFault.{FileFault}
-use Rattle.layout.specs.Faults.{on_line, in_part}
+use Rattle.layout.specs.declared.part.Part.TheVariants.{LeftNetwork, RightNetwork, LeftWindows, RightWindows, Extra as ExtraPart}
+use Rattle.layout.specs.Faults.{in_part}
 use Rattle.layout.specs.Layouts.{Layout, gives, then, told, Outcome, reached, refused, reads}
-use Rattle.model.specs.declared.Window.{Window}
+use Rattle.model.specs.declared.bench.Window.{Window}
 use Rattle.planfile.specs.declared.heads.Head.{Head}
 use Rattle.planfile.specs.declared.heads.ScaleKind.{ScaleKind}
 use Rattle.planfile.specs.declared.heads.ScaleKind.TheVariants.{Minutes, Grades}
-use Rattle.planfile.specs.Heads.{head_of}
+use Rattle.planfile.specs.Heads.{head_part}
 use Rattle.planfile.specs.Parts.{rows_of, windows_of}
 
 -- what a plan file says: the sizes, the cells of both networks row after row, and the windows of both sides
@@ -37,21 +38,21 @@ window_values s = record { least = s.least_window; greatest = s.greatest_window 
 -- the parts after the head: left network, right network, left windows, right windows
 unfoldable pub body_of : Bounds → Bounds → Head → Layout FileFault Description
 body_of cs ws h =
-    then (told (in_part 1) (rows_of cs h.left h.stations 0 [])) (λ l.
-    then (told (in_part 2) (rows_of cs h.right h.stations 0 [])) (λ r.
-    then (told (in_part 3) (windows_of ws h.left 0 [])) (λ lw.
-    then (told (in_part 4) (windows_of ws h.right 0 [])) (λ rw.
+    then (told (in_part LeftNetwork) (rows_of cs h.left h.stations 0 [])) (λ l.
+    then (told (in_part RightNetwork) (rows_of cs h.right h.stations 0 [])) (λ r.
+    then (told (in_part LeftWindows) (windows_of ws h.left 0 [])) (λ lw.
+    then (told (in_part RightWindows) (windows_of ws h.right 0 [])) (λ rw.
     gives (record { head = h; left = l; right = r; lefts = lw; rights = rw })))))
 
 abbrev pub body_by : Head → Layout FileFault Description
 body_by h = body_of (coefficients (scale_of h.scale)) (window_values (scale_of h.scale)) h
 
 unfoldable pub file_of : Layout FileFault Description
-file_of = then (told (in_part 0) (told (on_line 0) head_of)) body_by
+file_of = then head_part body_by
 
 -- bytes after the end, the first of them at offset q
 abbrev pub extra : ℕ → FileFault
-extra q = record { refusal = Extra; part = 5; line = 0; byte = q }
+extra q = record { refusal = Extra; part = ExtraPart; line = 0; byte = q }
 
 -- what comes of a file of n bytes, of which a layout has been read: no byte may be left over
 abbrev pub closed : {A : Type 0} → ℕ → Outcome FileFault A → Result A FileFault

@@ -1,9 +1,11 @@
 -- The head of a plan file: edition, scale, stations, left benches and right benches, a byte each. Assumes nothing.
-use Rattle.std.specs.Prelude.{ℕ, ◌≤◌, Bool, cond, ◌&&◌, ◌==◌, nat_le}
-use Rattle.network.specs.Networks.{Size}
+use Rattle.std.specs.Prelude.{ℕ, Bool, cond, ◌&&◌, ◌==◌, nat_le}
 use Rattle.network.specs.declared.refusal.Refusal.TheVariants.{Edition, UnknownScale, Size as WrongSize}
 use Rattle.layout.specs.declared.faults.ByteFault.{ByteFault}
-use Rattle.layout.specs.Layouts.{Layout, gives, then, checked}
+use Rattle.layout.specs.Layouts.{Layout, gives, then, told, checked}
+use Rattle.layout.specs.declared.faults.FileFault.{FileFault}
+use Rattle.layout.specs.declared.part.Part.TheVariants.{Head as HeadPart}
+use Rattle.layout.specs.Faults.{on_line, in_part}
 use Rattle.planfile.specs.declared.heads.Head.{Head}
 use Rattle.planfile.specs.declared.heads.ScaleKind.{ScaleKind}
 use Rattle.planfile.specs.declared.heads.ScaleKind.TheVariants.{Minutes, Grades}
@@ -22,13 +24,6 @@ head_of =
     then (checked 1 WrongSize (one_to 32)) (λ l. then (checked 1 WrongSize (one_to 32)) (λ r.
     gives (record { scale = kind s; stations = n; left = l; right = r }))))))
 
--- every size of the head is one of 1 to 32
-pub record Small (h : Head) : Type 0 where
-  pub stations : Size h.stations
-  pub left : Size h.left
-  pub right : Size h.right
-
--- the head h of a file of so many bytes
-pub record Sized (count : ℕ) (h : Head) : Type 0 where
-  pub whole : 5 ≤ count
-  pub small : Small h
+-- the head as a part of the file
+abbrev pub head_part : Layout FileFault Head
+head_part = told (in_part HeadPart) (told (on_line 0) head_of)

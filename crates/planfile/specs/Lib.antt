@@ -3,10 +3,11 @@ pub mod Windows
 pub mod Parts
 pub mod Heads
 pub mod Files
+pub mod Sound
 pub mod Documents
 pub mod Laws
-pub mod Contents
 pub mod Handed
+pub mod Contents
 pub mod Answers
 pub mod Asks
 pub mod Rowing

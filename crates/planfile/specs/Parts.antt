@@ -4,7 +4,7 @@ use Rattle.layout.specs.declared.bounds.Bounds.{Bounds}
 use Rattle.layout.specs.declared.faults.LineFault.{LineFault}
 use Rattle.layout.specs.Faults.{on_line}
 use Rattle.layout.specs.Layouts.{Layout, gives, then, told}
-use Rattle.model.specs.declared.Window.{Window}
+use Rattle.model.specs.declared.bench.Window.{Window}
 use Rattle.planfile.specs.Rows.{row_of}
 use Rattle.planfile.specs.Windows.{window_of}
 

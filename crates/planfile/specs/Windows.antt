@@ -6,7 +6,7 @@ use Rattle.layout.specs.declared.faults.ByteFault.{ByteFault}
 use Rattle.layout.specs.Faults.{fault}
 use Rattle.layout.specs.Layouts.{Layout, gives, fails, field, then}
 use Rattle.layout.specs.Numbers.{number_in}
-use Rattle.model.specs.declared.Window.{Window}
+use Rattle.model.specs.declared.bench.Window.{Window}
 
 abbrev pub has_floor : ℕ → Bool
 has_floor m = m % 2 == 1

@@ -1,5 +1,5 @@
 // A row as a part of the file, before it is decoded.
-ghost use Rattle.std.specs.Prelude.{◌≡◌, ◌≤◌, length};
+ghost use Rattle.std.specs.Prelude.{◌≡◌};
 ghost use Rattle.layout.specs.Reading.{Reads};
 ghost use Rattle.planfile.specs.Asks.{fields, asked_row};
 
@@ -9,7 +9,6 @@ use network::Refusal;
 
 // Passes over the row of some benches that begins at the cursor. Its map.
 pub(crate) fn pass_row(cursor: &mut Cursor, benches: usize) -> Result<u32, ByteFault>
-    requires { benches ≤ 32 }
     ensures { Reads (asked_row benches) cursor.old cursor.new (λ m. m) result }
 {
     let map = read_map(cursor, benches)?;
@@ -19,7 +18,6 @@ pub(crate) fn pass_row(cursor: &mut Cursor, benches: usize) -> Result<u32, ByteF
 
 // Passes over some fields of four bytes.
 fn skip(cursor: &mut Cursor, count: u32) -> Result<(), ByteFault>
-    requires { count ≤ 32 }
     ensures { Reads (fields count) cursor.old cursor.new (λ u. u) result }
 {
     let whole = (cursor.bytes.len() - cursor.at) / 4;

@@ -1,50 +1,52 @@
 // The body of a plan file: all that comes after its head.
-ghost use Rattle.std.specs.Prelude.{◌≡◌, length};
+ghost use Rattle.std.specs.Prelude.{◌≡◌, length, IfOk};
 ghost use Rattle.std.specs.Result.{result_map_both};
 ghost use Rattle.layout.specs.Layouts.{reads};
 ghost use Rattle.layout.specs.Reading.{Reads};
-ghost use Rattle.planfile.specs.Heads.{Sized, Small};
 ghost use Rattle.planfile.specs.Files.{body_of, closed};
+ghost use Rattle.planfile.specs.Sound.{plain};
 ghost use Rattle.planfile.specs.Contents.{said, ending};
 
-use crate::heads::Head;
+use crate::heads::SoundHead;
 use crate::lists::Lists;
 use crate::parts::{read_rows, read_windows};
-use layout::{Bounds, Cursor, FileFault, in_part};
+use crate::ranges::Ranges;
+use layout::{Cursor, FileFault, Part};
 use network::Refusal;
 
-// The lists of a file with this head, or its first fault.
+// The lists of a file with this head, from the cursor on, or its first fault.
 pub(crate) fn read_body(
-    file: &[u8],
-    head: Head,
-    coefficients: Bounds,
-    windows: Bounds,
+    cursor: &mut Cursor,
+    head: SoundHead,
+    ranges: Ranges,
 ) -> Result<Lists, FileFault>
-    requires { Sized (length file.now) head }
-    ensures { result_map_both (said head) (λ f. f) result ≡ closed (length file.now) (reads (body_of coefficients windows head) file.now 5) }
+    ensures reads { result_map_both said (λ f. f) result ≡ closed (length cursor.old.bytes.now) (reads (body_of ranges.coefficients ranges.windows (plain head)) cursor.old.bytes.now cursor.old.at) }
+    ensures head { IfOk result (λ x. x.head ≡ head) }
 {
-    let mut cursor = Cursor { bytes: file, at: 5 };
-    let lists = read_lists(&mut cursor, head, coefficients, windows)?;
-    check_end(&cursor)?;
+    let lists = read_lists(cursor, head, ranges)?;
+    check_end(cursor)?;
     Ok(lists)
 }
 
 // The parts after the head, one after another.
-fn read_lists(
-    cursor: &mut Cursor,
-    head: Head,
-    coefficients: Bounds,
-    windows: Bounds,
-) -> Result<Lists, FileFault>
-    requires { Small head }
-    ensures { Reads (body_of coefficients windows head) cursor.old cursor.new (said head) result }
+fn read_lists(cursor: &mut Cursor, head: SoundHead, ranges: Ranges) -> Result<Lists, FileFault>
+    ensures reads { Reads (body_of ranges.coefficients ranges.windows (plain head)) cursor.old cursor.new said result }
+    ensures head { IfOk result (λ x. x.head ≡ head) }
 {
-    let rows = head.stations;
-    let left = in_part(read_rows(cursor, rows, head.left, coefficients), 1)?;
-    let right = in_part(read_rows(cursor, rows, head.right, coefficients), 2)?;
-    let lefts = in_part(read_windows(cursor, head.left, windows), 3)?;
-    let rights = in_part(read_windows(cursor, head.right, windows), 4)?;
+    let left = read_rows(cursor, head.stations, head.left, ranges.coefficients).map_err(
+        |f| f.in_part(Part::LeftNetwork),
+    )?;
+    let right = read_rows(cursor, head.stations, head.right, ranges.coefficients).map_err(
+        |f| f.in_part(Part::RightNetwork),
+    )?;
+    let lefts = read_windows(cursor, head.left, ranges.windows).map_err(|f| f.in_part(
+        Part::LeftWindows,
+    ))?;
+    let rights = read_windows(cursor, head.right, ranges.windows).map_err(|f| f.in_part(
+        Part::RightWindows,
+    ))?;
     Ok(Lists {
+        head,
         left,
         right,
         lefts,
@@ -59,7 +61,7 @@ fn check_end(cursor: &Cursor) -> Result<(), FileFault>
     if cursor.at < cursor.bytes.len() {
         return Err(FileFault {
             refusal: Refusal::Extra,
-            part: 5,
+            part: Part::Extra,
             line: 0,
             byte: cursor.at,
         });

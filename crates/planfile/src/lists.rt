@@ -1,12 +1,19 @@
 // The lists of a plan file.
-use crate::parts::MOST;
-use model::Window;
+ghost use Rattle.std.specs.Prelude.{◌≡◌, ◌*◌, length};
 
-// The cells of both networks, the first of 1,024 each, and the windows of both sides, the first of 32 each.
-#[derive(Clone, Copy)]
+use crate::heads::SoundHead;
+use crate::parts::MOST;
+use crate::spans::Windows;
+use arrayvec::ArrayVec;
+
+// The head, the cells of both networks, row after row, and the windows of both sides.
+#[derive(Drop)]
 pub(crate) struct Lists {
-    pub(crate) left: [Option<i32>; MOST],
-    pub(crate) right: [Option<i32>; MOST],
-    pub(crate) lefts: [Window; 32],
-    pub(crate) rights: [Window; 32],
+    pub(crate) head: SoundHead,
+    pub(crate) left: ArrayVec<Option<i32>, MOST>,
+    pub(crate) right: ArrayVec<Option<i32>, MOST>,
+    pub(crate) lefts: Windows,
+    pub(crate) rights: Windows,
+    ghost left_cells: { length left.items ≡ head.stations.number * head.left.number },
+    ghost right_cells: { length right.items ≡ head.stations.number * head.right.number },
 }

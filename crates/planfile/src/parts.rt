@@ -1,65 +1,49 @@
 // The parts of a plan file that have a line for each station or bench.
-ghost use Rattle.std.specs.Prelude.{◌≡◌, ◌+◌, ◌*◌, ◌≤◌, [], ◌++◌, length, take};
+ghost use Rattle.std.specs.Prelude.{◌≡◌, ◌*◌, [], length, IfOk};
 ghost use Rattle.layout.specs.Reading.{Reads};
 ghost use Rattle.planfile.specs.Parts.{rows_of, windows_of};
+ghost use Rattle.planfile.specs.Handed.{windows_in};
 
 use crate::rows::read_row;
+use crate::sizes::Count;
+use crate::spans::Windows;
 use crate::windows::read_window;
-use layout::{Bounds, Cursor, LineFault, on_line};
-use model::Window;
+use arrayvec::ArrayVec;
+use layout::{Bounds, Cursor, LineFault};
 
 // The most cells of a network: 32 stations and 32 benches.
 pub(crate) const MOST: usize = 1024;
 
-// The cells of a network, row after row, the first of 1,024.
+// The cells of a network, row after row.
 pub(crate) fn read_rows(
     cursor: &mut Cursor,
-    stations: usize,
-    benches: usize,
+    stations: Count,
+    benches: Count,
     bounds: Bounds,
-) -> Result<[Option<i32>; MOST], LineFault>
-    requires few_stations { stations ≤ 32 }
-    requires few_benches { benches ≤ 32 }
-    ensures { Reads (rows_of bounds benches stations 0 []) cursor.old cursor.new (take (stations * benches)) result }
+) -> Result<ArrayVec<Option<i32>, MOST>, LineFault>
+    ensures reads { Reads (rows_of bounds benches.number stations.number 0 []) cursor.old cursor.new (λ cells. cells.items) result }
+    ensures len { IfOk result (λ cells. length cells.items ≡ stations.number * benches.number) }
 {
-    let mut cells = [None; MOST];
-    let mut at = 0;
-    for i in 0..stations {
-        let row = on_line(read_row(cursor, benches, bounds), i)?;
-        put_row(&mut cells, at, &row[0..benches]);
-        at += benches;
+    let mut cells = ArrayVec::new();
+    for i in 0..stations.number {
+        let row = read_row(cursor, benches, bounds).map_err(move |f| f.on_line(i))?;
+        cells.try_extend_from_slice(row.as_slice()).unwrap();
     }
     Ok(cells)
 }
 
-// Writes a row into the cells from a place on.
-fn put_row(cells: &mut [Option<i32>], at: usize, row: &[Option<i32>])
-    requires { at + length row.now ≤ length cells.old }
-    ensures written { take (at + length row.now) cells.new ≡ take at cells.old ++ row.now }
-    ensures len { length cells.new ≡ length cells.old }
-{
-    for j in 0..row.len() {
-        cells[at + j] = row[j];
-    }
-}
-
-// The windows of a side, the first of 32.
+// The windows of a side.
 pub(crate) fn read_windows(
     cursor: &mut Cursor,
-    benches: usize,
+    benches: Count,
     bounds: Bounds,
-) -> Result<[Window; 32], LineFault>
-    requires { benches ≤ 32 }
-    ensures { Reads (windows_of bounds benches 0 []) cursor.old cursor.new (take benches) result }
+) -> Result<Windows, LineFault>
+    ensures { Reads (windows_of bounds benches.number 0 []) cursor.old cursor.new windows_in result }
 {
-    let none = Window {
-        floor: 0,
-        ceiling: 0,
-    };
-    let mut windows = [none; 32];
-    for i in 0..benches {
-        let w = on_line(read_window(cursor, bounds), i)?;
-        windows[i] = w;
+    let mut list = ArrayVec::new();
+    for i in 0..benches.number {
+        let w = read_window(cursor, bounds).map_err(move |f| f.on_line(i))?;
+        list.push(w);
     }
-    Ok(windows)
+    Ok(Windows { list })
 }

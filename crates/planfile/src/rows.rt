@@ -1,23 +1,25 @@
 // A row: a map, then a coefficient for each bit that stands, lowest bench first.
-ghost use Rattle.std.specs.Prelude.{◌≡◌, ◌^◌, ◌<◌, ◌≤◌, [], take};
+ghost use Rattle.std.specs.Prelude.{◌≡◌, ◌^◌, ◌<◌, [], length, IfOk};
 ghost use Rattle.std.specs.Int.Count.{count_trailing_zeros};
 ghost use Rattle.layout.specs.Reading.{Reads};
 ghost use Rattle.planfile.specs.Rows.{cells, row_of};
 
 use crate::maps::read_map;
+use crate::sizes::Count;
+use arrayvec::ArrayVec;
 use layout::{Bounds, ByteFault, Cursor, read_number};
 use network::Refusal;
 
-// The cells of a row of `benches` benches, the first of 32.
+// The cells of a row.
 pub(crate) fn read_row(
     cursor: &mut Cursor,
-    benches: usize,
+    benches: Count,
     bounds: Bounds,
-) -> Result<[Option<i32>; 32], ByteFault>
-    requires { benches ≤ 32 }
-    ensures { Reads (row_of bounds benches) cursor.old cursor.new (take benches) result }
+) -> Result<ArrayVec<Option<i32>, 32>, ByteFault>
+    ensures reads { Reads (row_of bounds benches.number) cursor.old cursor.new (λ row. row.items) result }
+    ensures len { IfOk result (λ row. length row.items ≡ benches.number) }
 {
-    let map = read_map(cursor, benches)?;
+    let map = read_map(cursor, benches.number)?;
     read_cells(cursor, map, benches, bounds)
 }
 
@@ -25,16 +27,18 @@ pub(crate) fn read_row(
 fn read_cells(
     cursor: &mut Cursor,
     map: u32,
-    benches: usize,
+    benches: Count,
     bounds: Bounds,
-) -> Result<[Option<i32>; 32], ByteFault>
-    requires few { benches ≤ 32 }
-    requires bits { map < 2 ^ benches }
-    ensures { Reads (cells bounds benches map []) cursor.old cursor.new (take benches) result }
+) -> Result<ArrayVec<Option<i32>, 32>, ByteFault>
+    requires { map < 2 ^ benches.number }
+    ensures reads { Reads (cells bounds benches.number map []) cursor.old cursor.new (λ row. row.items) result }
+    ensures len { IfOk result (λ row. length row.items ≡ benches.number) }
 {
-    let mut row = [None; 32];
+    let mut row = ArrayVec::from([None; 32]);
+    row.truncate(benches.number);
     let mut rest = map;
     let mut bench = 0usize;
+    // not a `for` over the benches: by a rule of the project the next bench is that of the next bit
     while rest != 0 {
         let gap = next_bit(rest);
         bench += gap as usize;

@@ -1,13 +1,9 @@
 // A list of windows.
-ghost use Rattle.std.specs.Prelude.{◌≡◌, ◌≤◌, length};
-
+use arrayvec::ArrayVec;
 use model::Window;
 
-// The first `count` of 32 windows.
-#[derive(Clone, Copy)]
+// The windows of a side, bench 0 first.
+#[derive(Clone, Debug, Drop)]
 pub struct Windows {
-    pub(crate) list: [Window; 32],
-    pub(crate) count: usize,
-    ghost few: { count ≤ 32 },
-    ghost full: { length list ≡ 32 },
+    pub(crate) list: ArrayVec<Window, 32>,
 }

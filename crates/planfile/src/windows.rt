@@ -1,7 +1,8 @@
 // The window of a bench: a map byte, then the limits whose bit stands.
-ghost use Rattle.std.specs.Prelude.{◌≡◌};
+ghost use Rattle.std.specs.Prelude.{◌≡◌, ℤ};
+ghost use Rattle.std.specs.Option.{unwrap_or};
 ghost use Rattle.layout.specs.Reading.{Reads};
-ghost use Rattle.planfile.specs.Windows.{has_floor, has_ceiling, limit, in_order, limits_of, window_of};
+ghost use Rattle.planfile.specs.Windows.{has_floor, has_ceiling, limit, in_order, window_of};
 
 use layout::{Bounds, ByteFault, Cursor, read_number};
 use model::Window;
@@ -13,59 +14,44 @@ pub(crate) fn read_window(cursor: &mut Cursor, bounds: Bounds) -> Result<Window,
 {
     let byte = cursor.at;
     let map = cursor.byte()?;
-    if map < 4 {
-        read_limits(cursor, bounds, byte, floor_stands(map), ceiling_stands(map))
-    } else {
-        Err(ByteFault {
+    if map >= 4 {
+        return Err(ByteFault {
             refusal: Refusal::Bit,
             byte,
-        })
+        });
     }
+    let floor = read_limit(cursor, floor_stands(map), bounds)?;
+    let ceiling = read_limit(cursor, ceiling_stands(map), bounds)?;
+    in_order(
+        floor_or_least(floor, bounds),
+        ceiling_or_greatest(ceiling, bounds),
+        byte,
+    )
 }
 
-// The limits that stand, of the map at an offset.
-fn read_limits(
-    cursor: &mut Cursor,
-    bounds: Bounds,
-    byte: usize,
-    with_floor: bool,
-    with_ceiling: bool,
-) -> Result<Window, ByteFault>
-    ensures { Reads (limits_of bounds byte with_floor with_ceiling) cursor.old cursor.new (λ w. w) result }
+// The limit, if it stands in the file.
+fn read_limit(cursor: &mut Cursor, stands: bool, bounds: Bounds) -> Result<Option<i32>, ByteFault>
+    ensures { (otherwise : ℤ) → Reads (limit bounds stands otherwise) cursor.old cursor.new (λ v. unwrap_or v otherwise) result }
 {
-    let floor = read_limit(cursor, with_floor, bounds, lowest_floor(bounds))?;
-    let ceiling = read_limit(cursor, with_ceiling, bounds, highest_ceiling(bounds))?;
-    in_order(floor, ceiling, byte)
-}
-
-// The floor where none is written.
-fn lowest_floor(bounds: Bounds) -> i32
-    ensures { result ≡ bounds.least }
-{
-    bounds.least
-}
-
-// The ceiling where none is written.
-fn highest_ceiling(bounds: Bounds) -> i32
-    ensures { result ≡ bounds.greatest }
-{
-    bounds.greatest
-}
-
-// A limit that is written, or else the other one.
-fn read_limit(
-    cursor: &mut Cursor,
-    stands: bool,
-    bounds: Bounds,
-    otherwise: i32,
-) -> Result<i32, ByteFault>
-    ensures { Reads (limit bounds stands otherwise) cursor.old cursor.new (λ v. v) result }
-{
-    if stands {
-        read_number(cursor, bounds, Refusal::Window)
-    } else {
-        Ok(otherwise)
+    if !stands {
+        return Ok(None);
     }
+    let limit = read_number(cursor, bounds, Refusal::Window)?;
+    Ok(Some(limit))
+}
+
+// The floor, the least value where none is written.
+fn floor_or_least(floor: Option<i32>, bounds: Bounds) -> i32
+    ensures { result ≡ unwrap_or floor bounds.least }
+{
+    floor.unwrap_or(bounds.least)
+}
+
+// The ceiling, the greatest value where none is written.
+fn ceiling_or_greatest(ceiling: Option<i32>, bounds: Bounds) -> i32
+    ensures { result ≡ unwrap_or ceiling bounds.greatest }
+{
+    ceiling.unwrap_or(bounds.greatest)
 }
 
 fn floor_stands(map: u8) -> bool

@@ -1,4 +1,4 @@
-use crate::worked::{FILE, is_refused, with_byte, with_number};
+use crate::worked::{FILE, refusal, with_byte, with_number};
 
 // Offset, part and line of every field of the worked file.
 const FIELDS: [(usize, u8, usize); 24] = [
@@ -30,20 +30,18 @@ const FIELDS: [(usize, u8, usize); 24] = [
 
 // The part, the line and the offset of the field that is due after so many bytes.
 fn due(count: usize) -> (u8, usize, usize) {
-    let mut field = (0, 0, 0);
-    for (byte, part, line) in FIELDS {
-        if byte <= count {
-            field = (part, line, byte);
-        }
-    }
-    field
+    FIELDS
+        .iter()
+        .filter(|field| field.0 <= count)
+        .last()
+        .map_or((0, 0, 0), |field| (field.1, field.2, field.0))
 }
 
 #[test]
 fn of_every_prefix(rt: HostRuntime) {
     for count in 0..72usize {
         let (part, line, byte) = due(count);
-        assert!(rt; is_refused(&FILE[0..count], 1, part, line, byte));
+        assert_eq!(rt; refusal(&FILE[0..count]), Some((1, part, line, byte)));
     }
 }
 
@@ -65,7 +63,10 @@ fn of_bytes(rt: HostRuntime) {
         (54, 128, 5, 3, 1),
         (63, 7, 5, 4, 0),
     ] {
-        assert!(rt; is_refused(&with_byte(at, value), number, part, line, at));
+        assert_eq!(rt;
+            refusal(&with_byte(at, value)),
+            Some((number, part, line, at))
+        );
     }
 }
 
@@ -82,7 +83,10 @@ fn of_maps_and_coefficients(rt: HostRuntime) {
         (33, i32::MIN, 6, 2, 0),
         (41, -1_000_000_001, 6, 2, 1),
     ] {
-        assert!(rt; is_refused(&with_number(at, value), number, part, line, at));
+        assert_eq!(rt;
+            refusal(&with_number(at, value)),
+            Some((number, part, line, at))
+        );
     }
 }
 
@@ -97,7 +101,10 @@ fn of_windows(rt: HostRuntime) {
         (59, -1, 8, 3, 1, 54),
         (64, 101, 8, 4, 0, 63),
     ] {
-        assert!(rt; is_refused(&with_number(at, value), number, part, line, byte));
+        assert_eq!(rt;
+            refusal(&with_number(at, value)),
+            Some((number, part, line, byte))
+        );
     }
 }
 
@@ -105,18 +112,18 @@ fn of_windows(rt: HostRuntime) {
 fn of_extra_bytes(rt: HostRuntime) {
     let mut longer = [0; 74];
     longer[0..72].copy_from_slice(&FILE);
-    assert!(rt; is_refused(&longer[0..73], 9, 5, 0, 72));
-    assert!(rt; is_refused(&longer, 9, 5, 0, 72));
+    assert_eq!(rt; refusal(&longer[0..73]), Some((9, 5, 0, 72)));
+    assert_eq!(rt; refusal(&longer), Some((9, 5, 0, 72)));
 }
 
 #[test]
 fn of_the_first_place(rt: HostRuntime) {
-    assert!(rt; is_refused(&[], 1, 0, 0, 0));
-    assert!(rt; is_refused(&[2], 2, 0, 0, 0));
-    assert!(rt; is_refused(&[1], 1, 0, 0, 1));
-    assert!(rt; is_refused(&[1, 7], 3, 0, 0, 1));
-    assert!(rt; is_refused(&[1, 2, 0, 0, 0], 4, 0, 0, 2));
+    assert_eq!(rt; refusal(&[]), Some((1, 0, 0, 0)));
+    assert_eq!(rt; refusal(&[2]), Some((2, 0, 0, 0)));
+    assert_eq!(rt; refusal(&[1]), Some((1, 0, 0, 1)));
+    assert_eq!(rt; refusal(&[1, 7]), Some((3, 0, 0, 1)));
+    assert_eq!(rt; refusal(&[1, 2, 0, 0, 0]), Some((4, 0, 0, 2)));
     // a coefficient out of its range comes before the one that is missing after it
     let file = with_number(9, 1_000_001);
-    assert!(rt; is_refused(&file[0..13], 6, 1, 0, 9));
+    assert_eq!(rt; refusal(&file[0..13]), Some((6, 1, 0, 9)));
 }

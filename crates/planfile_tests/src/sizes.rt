@@ -1,5 +1,5 @@
 use crate::sound::minutes;
-use crate::worked::is_refused;
+use crate::worked::refusal;
 use std::test::Fail;
 
 // 32 stations and 32 benches a side, every bit: 5 bytes of head, 64 rows of 132 bytes, 64 maps of windows.
@@ -49,8 +49,8 @@ fn the_largest_file(rt: HostRuntime) -> Result<(), Fail> {
     assert_eq!(rt; plan.left.cell(31, 31), Some(31));
     assert_eq!(rt; plan.right.cell(31, 30), Some(30));
     assert_eq!(rt; plan.right.cell(31, 32), None);
-    assert!(rt; plan.lefts.as_slice().len() == 32);
-    assert!(rt; plan.rights.as_slice().len() == 32);
+    assert_eq!(rt; plan.lefts.as_slice().len(), 32);
+    assert_eq!(rt; plan.rights.as_slice().len(), 32);
     Ok(())
 }
 
@@ -58,15 +58,15 @@ fn the_largest_file(rt: HostRuntime) -> Result<(), Fail> {
 fn the_largest_file_with_faults(rt: HostRuntime) {
     let file = full();
     // the last coefficient of the left network, the first row of the right, the last window
-    assert!(rt; is_refused(&file[0..4228], 1, 1, 31, 4225));
-    assert!(rt; is_refused(&file[0..4229], 1, 2, 0, 4229));
-    assert!(rt; is_refused(&file[0..8516], 1, 4, 31, 8516));
+    assert_eq!(rt; refusal(&file[0..4228]), Some((1, 1, 31, 4225)));
+    assert_eq!(rt; refusal(&file[0..4229]), Some((1, 2, 0, 4229)));
+    assert_eq!(rt; refusal(&file[0..8516]), Some((1, 4, 31, 8516)));
     let mut last = full();
     put(&mut last, 8449, 127);
-    assert!(rt; is_refused(&last, 6, 2, 31, 8449));
+    assert_eq!(rt; refusal(&last), Some((6, 2, 31, 8449)));
     put(&mut last, 8449, 0);
     put(&mut last, 8516, 4);
-    assert!(rt; is_refused(&last, 5, 4, 31, 8516));
+    assert_eq!(rt; refusal(&last), Some((5, 4, 31, 8516)));
 }
 
 #[test]
@@ -77,13 +77,13 @@ fn the_top_bit(rt: HostRuntime) -> Result<(), Fail> {
         &mut file,
         &[(0, 1), (1, 1), (2, 1), (3, 32), (4, 1), (5, 128), (12, 7)],
     );
-    assert!(rt; is_refused(&file[0..49], 1, 4, 0, 49));
+    assert_eq!(rt; refusal(&file[0..49]), Some((1, 4, 0, 49)));
     let plan = minutes(&file[0..50])?;
     assert_eq!(rt; plan.left.cell(0, 31), Some(7));
     assert_eq!(rt; plan.left.cell(0, 0), None);
-    assert!(rt; is_refused(&file, 9, 5, 0, 50));
+    assert_eq!(rt; refusal(&file), Some((9, 5, 0, 50)));
     // of 31 benches the same bit stands for nothing
     put(&mut file, 3, 31);
-    assert!(rt; is_refused(&file, 5, 1, 0, 5));
+    assert_eq!(rt; refusal(&file), Some((5, 1, 0, 5)));
     Ok(())
 }

@@ -5,30 +5,21 @@ use scale::{Grades, Minutes};
 use std::test::Fail;
 
 pub(crate) fn minutes(file: &[u8]) -> Result<Contents<Minutes>, Fail> {
-    match read_plan(file) {
-        Ok(plan) => match plan {
-            PlanFile::Minutes(contents) => Ok(contents),
-            PlanFile::Grades(_) => Err(Fail::new("grades")),
-        },
-        Err(_) => Err(Fail::new("refused")),
-    }
+    let Ok(PlanFile::Minutes(contents)) = read_plan(file) else {
+        return Err(Fail::new("no plan in minutes"));
+    };
+    Ok(contents)
 }
 
 fn grades(file: &[u8]) -> Result<Contents<Grades>, Fail> {
-    match read_plan(file) {
-        Ok(plan) => match plan {
-            PlanFile::Grades(contents) => Ok(contents),
-            PlanFile::Minutes(_) => Err(Fail::new("minutes")),
-        },
-        Err(_) => Err(Fail::new("refused")),
-    }
+    let Ok(PlanFile::Grades(contents)) = read_plan(file) else {
+        return Err(Fail::new("no plan in grades"));
+    };
+    Ok(contents)
 }
 
-fn is_window(windows: &[Window], bench: usize, floor: i32, ceiling: i32) -> bool {
-    match windows.get(bench) {
-        Some(w) => w.floor == floor && w.ceiling == ceiling,
-        None => false,
-    }
+fn window(floor: i32, ceiling: i32) -> Window {
+    Window { floor, ceiling }
 }
 
 #[test]
@@ -41,11 +32,14 @@ fn the_worked_file(rt: HostRuntime) -> Result<(), Fail> {
     assert_eq!(rt; plan.left.cell(1, 2), None);
     assert_eq!(rt; plan.right.cell(0, 0), Some(0));
     assert_eq!(rt; plan.right.cell(1, 0), Some(0));
-    assert!(rt; plan.lefts.as_slice().len() == 2);
-    assert!(rt; plan.rights.as_slice().len() == 1);
-    assert!(rt; is_window(plan.lefts.as_slice(), 0, 0, 100));
-    assert!(rt; is_window(plan.lefts.as_slice(), 1, 0, 100));
-    assert!(rt; is_window(plan.rights.as_slice(), 0, 0, 100));
+    assert_eq!(rt; plan.lefts.as_slice().len(), 2);
+    assert_eq!(rt; plan.rights.as_slice().len(), 1);
+    assert_eq!(rt; plan.lefts.as_slice().get(0).copied(), Some(window(0, 100)));
+    assert_eq!(rt; plan.lefts.as_slice().get(1).copied(), Some(window(0, 100)));
+    assert_eq!(rt;
+        plan.rights.as_slice().get(0).copied(),
+        Some(window(0, 100))
+    );
     Ok(())
 }
 
@@ -59,23 +53,30 @@ fn limits_of_minutes(rt: HostRuntime) -> Result<(), Fail> {
         minutes(&with_number(41, -1_000_000))?.right.cell(1, 0),
         Some(-1_000_000)
     );
-    assert!(rt;
-        is_window(
-            minutes(&with_number(46, -1_000_000))?.lefts.as_slice(),
-            0,
-            -1_000_000,
-            100,
-        )
+    assert_eq!(rt;
+        minutes(&with_number(46, -1_000_000))?
+            .lefts
+            .as_slice()
+            .get(0)
+            .copied(),
+        Some(window(-1_000_000, 100))
     );
-    assert!(rt;
-        is_window(
-            minutes(&with_number(68, 1_000_000))?.rights.as_slice(),
-            0,
-            0,
-            1_000_000,
-        )
+    assert_eq!(rt;
+        minutes(&with_number(68, 1_000_000))?
+            .rights
+            .as_slice()
+            .get(0)
+            .copied(),
+        Some(window(0, 1_000_000))
     );
-    assert!(rt; is_window(minutes(&with_number(59, 0))?.lefts.as_slice(), 1, 0, 0));
+    assert_eq!(rt;
+        minutes(&with_number(59, 0))?
+            .lefts
+            .as_slice()
+            .get(1)
+            .copied(),
+        Some(window(0, 0))
+    );
     Ok(())
 }
 
@@ -87,12 +88,21 @@ fn limits_that_are_not_written(rt: HostRuntime) -> Result<(), Fail> {
     ];
     let plan = minutes(&file)?;
     assert_eq!(rt; plan.left.cell(0, 0), None);
-    assert!(rt; is_window(plan.lefts.as_slice(), 0, -1_000_000, 1_000_000));
-    assert!(rt; is_window(plan.rights.as_slice(), 0, -5, 1_000_000));
+    assert_eq!(rt;
+        plan.lefts.as_slice().get(0).copied(),
+        Some(window(-1_000_000, 1_000_000))
+    );
+    assert_eq!(rt;
+        plan.rights.as_slice().get(0).copied(),
+        Some(window(-5, 1_000_000))
+    );
     // a ceiling alone
     let mut upper = file;
     upper[14] = 2;
-    assert!(rt; is_window(minutes(&upper)?.rights.as_slice(), 0, -1_000_000, -5));
+    assert_eq!(rt;
+        minutes(&upper)?.rights.as_slice().get(0).copied(),
+        Some(window(-1_000_000, -5))
+    );
     Ok(())
 }
 
@@ -104,6 +114,6 @@ fn grades_with_a_coefficient_of_0(rt: HostRuntime) -> Result<(), Fail> {
     let plan = grades(&file)?;
     assert_eq!(rt; plan.left.cell(0, 0), None);
     assert_eq!(rt; plan.right.cell(0, 0), Some(15));
-    assert!(rt; is_window(plan.lefts.as_slice(), 0, 0, 15));
+    assert_eq!(rt; plan.lefts.as_slice().get(0).copied(), Some(window(0, 15)));
     Ok(())
 }

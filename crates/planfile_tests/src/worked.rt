@@ -22,8 +22,8 @@ pub(crate) const FILE: [u8; 72] = [
 // The worked file with a byte in place of the one at an offset.
 pub(crate) fn with_byte(at: usize, value: u8) -> [u8; 72] {
     let mut file = FILE;
-    if at < 72 {
-        file[at] = value;
+    if let Some(byte) = file.get_mut(at) {
+        *byte = value;
     }
     file
 }
@@ -31,27 +31,23 @@ pub(crate) fn with_byte(at: usize, value: u8) -> [u8; 72] {
 // The worked file with a number in place of the one at an offset.
 pub(crate) fn with_number(at: usize, value: i32) -> [u8; 72] {
     let mut file = FILE;
-    let [a, b, c, d] = value.cast_unsigned().to_be_bytes();
     if at < 69 {
-        file[at] = a;
-        file[at + 1] = b;
-        file[at + 2] = c;
-        file[at + 3] = d;
+        file[at..at + 4].copy_from_slice(&value.to_be_bytes());
     }
     file
 }
 
-// Whether a file is refused with this number, part, line and byte.
-pub(crate) fn is_refused(file: &[u8], number: u8, part: u8, line: usize, byte: usize) -> bool {
-    match read_plan(file) {
-        Ok(_) => false,
-        Err(fault) => is_fault(fault, number, part, line, byte),
-    }
+// The number, part, line and byte of a fault.
+pub(crate) fn told(fault: FileFault) -> (u8, u8, usize, usize) {
+    (
+        fault.refusal.number(),
+        fault.part.number(),
+        fault.line,
+        fault.byte,
+    )
 }
 
-pub(crate) fn is_fault(fault: FileFault, number: u8, part: u8, line: usize, byte: usize) -> bool {
-    fault.refusal.number() == number
-        && fault.part == part
-        && fault.line == line
-        && fault.byte == byte
+// What a file is refused with, none where it is accepted.
+pub(crate) fn refusal(file: &[u8]) -> Option<(u8, u8, usize, usize)> {
+    read_plan(file).err().map(told)
 }

@@ -15,6 +15,15 @@ pub record Algebra : Type 0 where
   -- a \ b
   pub quotient : Option ℤ → ℤ → ℤ
 
+-- the constants of a scale's code are its numbers
+pub record Numbers (s : Algebra) (lowest highest least_window greatest_window least_coefficient greatest_coefficient : ℤ) : Type 0 where
+  pub lowest_is : s.lowest ≡ lowest
+  pub highest_is : s.highest ≡ highest
+  pub least_window_is : s.least_window ≡ least_window
+  pub greatest_window_is : s.greatest_window ≡ greatest_window
+  pub least_coefficient_is : s.least_coefficient ≡ least_coefficient
+  pub greatest_coefficient_is : s.greatest_coefficient ≡ greatest_coefficient
+
 -- z is a value of the scale
 pub record Value (s : Algebra) (z : ℤ) : Type 0 where
   pub above : s.lowest ≤ℤ z

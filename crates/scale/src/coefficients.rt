@@ -1,6 +1,6 @@
 // Coefficients of a scale: which are present, and what they say of values.
 ghost use Rattle.std.specs.Prelude.{◌≡◌, int_le, int_lt};
-ghost use Rattle.scale.specs.Algebra.{of_scale, present, counted, held, InTime};
+ghost use Rattle.scale.specs.Algebra.{of_scale, present, counted, clamped, held, InTime};
 ghost use Rattle.scale.specs.Presence.{Presence};
 
 use crate::scale::Scale;
@@ -9,17 +9,14 @@ use crate::scale::Scale;
 pub fn is_of_scale<S: Scale>(a: i32) -> bool
     ensures { result ≡ of_scale S.Scale.algebra a }
 {
-    S::NUMBERS.least_coefficient() <= a && a <= S::NUMBERS.greatest_coefficient()
+    S::LEAST_COEFFICIENT <= a && a <= S::GREATEST_COEFFICIENT
 }
 
 // Whether a number is a coefficient of the scale that is present.
 pub fn is_present<S: Scale>(a: i32) -> bool
     ensures { result ≡ present S.Scale.algebra a }
 {
-    is_above(
-        S::product(Some(a), S::NUMBERS.highest()),
-        S::NUMBERS.lowest(),
-    )
+    is_above(S::product(Some(a), S::HIGHEST), S::LOWEST)
 }
 
 fn is_above(x: i32, low: i32) -> bool
@@ -32,17 +29,20 @@ fn is_above(x: i32, low: i32) -> bool
 pub fn counted<S: Scale>(a: Option<i32>) -> Option<i32>
     ensures { result ≡ counted S.Scale.algebra a }
 {
-    match a {
-        Some(a) if is_present::<S>(a) => Some(a),
-        _ => None,
-    }
+    a.filter(|a| is_present::<S>(*a))
 }
 
 // The value, or the nearer end of the scale's range.
 pub fn held<S: Scale>(x: i32) -> i32
     ensures { result ≡ held S.Scale.algebra x }
 {
-    x.min(S::NUMBERS.highest()).max(S::NUMBERS.lowest())
+    clamped(x, S::LOWEST, S::HIGHEST)
+}
+
+fn clamped(x: i32, low: i32, high: i32) -> i32
+    ensures { result ≡ clamped low high x }
+{
+    x.min(high).max(low)
 }
 
 // Whether x, taken over the coefficient a, is at most b.

@@ -1,5 +1,5 @@
 // Fit grades.
-ghost use Rattle.std.specs.Prelude.{◌≡◌, pos};
+ghost use Rattle.std.specs.Prelude.{◌≡◌, pos, refl};
 ghost use Rattle.std.specs.Option.{unwrap_or};
 ghost use Rattle.scale.specs.Algebra.{counted, held};
 ghost use Rattle.scale.specs.Grades.{grades};
@@ -10,60 +10,40 @@ use crate::scale::Scale;
 // The finest grade.
 const FINEST: i32 = 15;
 
-// Fit grades from 0 to 15. The fields are the scale's numbers.
+// Fit grades from 0 to 15.
 #[derive(Clone, Copy)]
-pub struct Grades {
-    lowest: i32,
-    highest: i32,
-    least_window: i32,
-    greatest_window: i32,
-    least_coefficient: i32,
-    greatest_coefficient: i32,
-    ghost the_lowest: { lowest ≡ grades.lowest },
-    ghost the_highest: { highest ≡ grades.highest },
-    ghost the_least_window: { least_window ≡ grades.least_window },
-    ghost the_greatest_window: { greatest_window ≡ grades.greatest_window },
-    ghost the_least_coefficient: { least_coefficient ≡ grades.least_coefficient },
-    ghost the_greatest_coefficient: { greatest_coefficient ≡ grades.greatest_coefficient },
-}
+pub struct Grades;
 
 impl Scale for Grades {
-    const NUMBERS: Grades = Grades {
-        lowest: 0,
-        highest: FINEST,
-        least_window: 0,
-        greatest_window: FINEST,
-        least_coefficient: 0,
-        greatest_coefficient: FINEST,
-    };
+    const LOWEST: i32 = 0;
+
+    const HIGHEST: i32 = FINEST;
+
+    const LEAST_WINDOW: i32 = 0;
+
+    const GREATEST_WINDOW: i32 = FINEST;
+
+    const LEAST_COEFFICIENT: i32 = 0;
+
+    const GREATEST_COEFFICIENT: i32 = FINEST;
+
+    ghost LOWEST = { pos 0 };
+
+    ghost HIGHEST = { pos 15 };
+
+    ghost LEAST_WINDOW = { pos 0 };
+
+    ghost GREATEST_WINDOW = { pos 15 };
+
+    ghost LEAST_COEFFICIENT = { pos 0 };
+
+    ghost GREATEST_COEFFICIENT = { pos 15 };
 
     ghost algebra = { grades };
 
+    ghost numbers = { record { lowest_is = refl; highest_is = refl; least_window_is = refl; greatest_window_is = refl; least_coefficient_is = refl; greatest_coefficient_is = refl } };
+
     ghost lawful = { grades_lawful };
-
-    fn lowest(&self) -> i32 {
-        self.lowest
-    }
-
-    fn highest(&self) -> i32 {
-        self.highest
-    }
-
-    fn least_window(&self) -> i32 {
-        self.least_window
-    }
-
-    fn greatest_window(&self) -> i32 {
-        self.greatest_window
-    }
-
-    fn least_coefficient(&self) -> i32 {
-        self.least_coefficient
-    }
-
-    fn greatest_coefficient(&self) -> i32 {
-        self.greatest_coefficient
-    }
 
     fn product(a: Option<i32>, x: i32) -> i32 {
         coefficient(a).min(grade(x))
@@ -79,10 +59,7 @@ impl Scale for Grades {
 fn coefficient(a: Option<i32>) -> i32
     ensures { result ≡ unwrap_or (counted grades a) (pos 0) }
 {
-    match a {
-        Some(a) if 0 <= a && a <= FINEST => a,
-        _ => 0,
-    }
+    a.filter(|a| (0..=FINEST).contains(a)).unwrap_or(0)
 }
 
 // The nearer grade.

@@ -1,6 +1,6 @@
 // Minutes.
-ghost use Rattle.std.specs.Prelude.{◌≡◌, Some};
-ghost use Rattle.scale.specs.Algebra.{Coefficient, held};
+ghost use Rattle.std.specs.Prelude.{◌≡◌, Some, IfSome, refl};
+ghost use Rattle.scale.specs.Algebra.{Coefficient, counted, held};
 ghost use Rattle.scale.specs.Minutes.{minutes, minutes_product, minutes_quotient};
 ghost use Rattle.scale.specs.MinutesLaw.{minutes_lawful};
 
@@ -18,74 +18,56 @@ const OPEN: i32 = Q + 1;
 // The largest coefficient and window value.
 const LIMIT: i32 = 1_000_000;
 
-// Minutes, void and open. The fields are the scale's numbers.
+// Minutes, void and open.
 #[derive(Clone, Copy)]
-pub struct Minutes {
-    lowest: i32,
-    highest: i32,
-    least_window: i32,
-    greatest_window: i32,
-    least_coefficient: i32,
-    greatest_coefficient: i32,
-    ghost the_lowest: { lowest ≡ minutes.lowest },
-    ghost the_highest: { highest ≡ minutes.highest },
-    ghost the_least_window: { least_window ≡ minutes.least_window },
-    ghost the_greatest_window: { greatest_window ≡ minutes.greatest_window },
-    ghost the_least_coefficient: { least_coefficient ≡ minutes.least_coefficient },
-    ghost the_greatest_coefficient: { greatest_coefficient ≡ minutes.greatest_coefficient },
-}
+pub struct Minutes;
 
 impl Scale for Minutes {
-    const NUMBERS: Minutes = Minutes {
-        lowest: VOID,
-        highest: OPEN,
-        least_window: -LIMIT,
-        greatest_window: LIMIT,
-        least_coefficient: -LIMIT,
-        greatest_coefficient: LIMIT,
-    };
+    const LOWEST: i32 = VOID;
+
+    const HIGHEST: i32 = OPEN;
+
+    const LEAST_WINDOW: i32 = -LIMIT;
+
+    const GREATEST_WINDOW: i32 = LIMIT;
+
+    const LEAST_COEFFICIENT: i32 = -LIMIT;
+
+    const GREATEST_COEFFICIENT: i32 = LIMIT;
+
+    ghost LOWEST = { minutes.lowest };
+
+    ghost HIGHEST = { minutes.highest };
+
+    ghost LEAST_WINDOW = { minutes.least_window };
+
+    ghost GREATEST_WINDOW = { minutes.greatest_window };
+
+    ghost LEAST_COEFFICIENT = { minutes.least_coefficient };
+
+    ghost GREATEST_COEFFICIENT = { minutes.greatest_coefficient };
 
     ghost algebra = { minutes };
 
+    ghost numbers = { record { lowest_is = refl; highest_is = refl; least_window_is = refl; greatest_window_is = refl; least_coefficient_is = refl; greatest_coefficient_is = refl } };
+
     ghost lawful = { minutes_lawful };
 
-    fn lowest(&self) -> i32 {
-        self.lowest
-    }
-
-    fn highest(&self) -> i32 {
-        self.highest
-    }
-
-    fn least_window(&self) -> i32 {
-        self.least_window
-    }
-
-    fn greatest_window(&self) -> i32 {
-        self.greatest_window
-    }
-
-    fn least_coefficient(&self) -> i32 {
-        self.least_coefficient
-    }
-
-    fn greatest_coefficient(&self) -> i32 {
-        self.greatest_coefficient
-    }
-
     fn product(a: Option<i32>, x: i32) -> i32 {
-        match a {
-            Some(a) if -LIMIT <= a && a <= LIMIT => later(a, x),
-            _ => VOID,
-        }
+        coefficient(a).map_or(VOID, |a| later(a, x))
     }
 
     fn quotient(a: Option<i32>, b: i32) -> i32 {
-        match a {
-            Some(a) if -LIMIT <= a && a <= LIMIT => earlier(a, b),
-            _ => OPEN,
-        }
+        coefficient(a).map_or(OPEN, |a| earlier(a, b))
     }
+}
+
+// The coefficient, or none where it is not one of minutes.
+fn coefficient(a: Option<i32>) -> Option<i32>
+    ensures value { result ≡ counted minutes a }
+    ensures bounds { IfSome result (λ c. Coefficient minutes (Some c)) }
+{
+    a.filter(|a| (-LIMIT..=LIMIT).contains(a))
 }
 
 // The value a minutes after x.

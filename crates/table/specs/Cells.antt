@@ -1,5 +1,5 @@
 -- How a table keeps its coefficients, and what making one answers. Assumes nothing.
-use Rattle.std.specs.Prelude.{◌≡◌, ℕ, ◌+◌, ◌*◌, ◌<◌, cond, ◌≢◌, List, [], ◌∷◌, ℤ, negsuc, Some, None, Option, int_lt}
+use Rattle.std.specs.Prelude.{◌≡◌, ℕ, ◌+◌, ◌*◌, ◌^◌, ◌<◌, if◌then◌else◌, ◌≢◌, List, [], ◌∷◌, ℤ, pos, neg_ℤ, Some, None, Option, int_lt}
 use Rattle.scale.specs.Algebra.{Algebra, counted}
 use Rattle.network.specs.Lists.{at}
 use Rattle.network.specs.Networks.{Meaning, Size}
@@ -9,11 +9,11 @@ use Rattle.table.specs.declared.table.Table.{Table}
 
 -- the coefficient that a kept number stands for: the least number stands for none
 abbrev pub asked : ℤ → Option ℤ
-asked c = cond (int_lt (negsuc 2147483647) c) (Some c) None
+asked c = if int_lt (neg_ℤ (pos (2 ^ 31))) c then Some c else None
 
 -- the coefficient of station i and bench j
 abbrev pub cell_of : {S : Type 0} → Table S → ℕ → ℕ → Option ℤ
-cell_of t i j = asked (at t.cells (i * t.benches + j))
+cell_of t i j = asked (at t.cells.items (i * t.benches + j))
 
 abbrev pub table_of : {S : Type 0} → Algebra → Table S → Meaning
 table_of s t = table s t.stations t.benches (cell_of t)

@@ -1,13 +1,13 @@
 // Making a table.
-ghost use Rattle.std.specs.Prelude.{◌≡◌, ℕ, ◌<◌, ◌≤◌, length, None, slice_index_or};
+ghost use Rattle.std.specs.Prelude.{◌≡◌, ◌≤◌, length, map};
 ghost use Rattle.scale.specs.Algebra.{counted};
 ghost use Rattle.network.specs.Checks.{Makes};
-ghost use Rattle.network.specs.Lists.{at};
 ghost use Rattle.network.specs.Refusals.{number};
 ghost use Rattle.table.specs.Cells.{asked, table_checks, Holds};
 
 use crate::rows::ABSENT;
-use crate::table::{MOST, Table};
+use crate::table::Table;
+use arrayvec::ArrayVec;
 use network::Refusal;
 use scale::{Scale, counted};
 use std::marker::PhantomData;
@@ -33,23 +33,21 @@ impl<S: Scale> Table<S> {
 }
 
 // The numbers that stand for the coefficients.
-fn kept_cells<S: Scale>(cells: &[Option<i32>]) -> [i32; MOST]
+fn kept_cells<S: Scale>(cells: &[Option<i32>]) -> ArrayVec<i32, 1024>
     requires { length cells.now ≤ 1024 }
-    ensures { (k : ℕ) → k < length cells.now → asked (at result k) ≡ counted S.Scale.algebra (slice_index_or cells.now k None) }
+    ensures count { length result.items ≡ length cells.now }
+    ensures cells { map asked result.items ≡ map (counted S.Scale.algebra) cells.now }
 {
-    let mut all = [ABSENT; MOST];
-    for k in 0..cells.len() {
-        all[k] = kept::<S>(cells[k]);
+    let mut numbers = ArrayVec::new();
+    for a in cells {
+        numbers.push(kept::<S>(*a));
     }
-    all
+    numbers
 }
 
 // The number that stands for a coefficient.
 fn kept<S: Scale>(a: Option<i32>) -> i32
     ensures { asked result ≡ counted S.Scale.algebra a }
 {
-    match counted::<S>(a) {
-        Some(a) => a,
-        None => ABSENT,
-    }
+    counted::<S>(a).unwrap_or(ABSENT)
 }

@@ -1,9 +1,10 @@
 // Asking a table.
-ghost use Rattle.std.specs.Prelude.{◌≡◌, ◌<◌, ◌&&◌, if◌then◌else◌, None, nat_lt};
-ghost use Rattle.table.specs.Cells.{cell_of, table_of};
+ghost use Rattle.std.specs.Prelude.{◌≡◌, ℕ, ◌<◌, ◌&&◌, if◌then◌else◌, None, nat_lt, length};
+ghost use Rattle.network.specs.Lists.{at};
+ghost use Rattle.table.specs.Cells.{asked, cell_of, table_of};
 ghost use Rattle.table.specs.TableLaw.{table_lawful};
 
-use crate::rows::{asked, lower_row, raise, row_arrival};
+use crate::rows::{asked, lower_row, row_arrival};
 use crate::table::Table;
 use network::{Network, Refusal};
 use scale::Scale;
@@ -22,10 +23,21 @@ impl<S> Table<S> {
 
     // The coefficient of a station and a bench that are there.
     fn at_place(&self, station: usize, bench: usize) -> Option<i32>
-        requires { (station < self.now.stations) × (bench < self.now.benches) }
+        requires station { station < self.now.stations }
+        requires bench { bench < self.now.benches }
         ensures { result ≡ cell_of self.now station bench }
     {
         asked(self.cells[station * self.benches + bench])
+    }
+
+    // The cells of a station that is there. With `chunks_exact` in its place, an invariant has to say what the iterator has left.
+    fn row(&self, station: usize) -> &[i32]
+        requires { station < self.now.stations }
+        ensures count { length result.now ≡ self.now.benches }
+        ensures cells { (bench : ℕ) → bench < self.now.benches → asked (at result.now bench) ≡ cell_of self.now station bench }
+    {
+        let start = station * self.benches;
+        &self.cells[start..start + self.benches]
     }
 }
 
@@ -34,9 +46,7 @@ impl<S: Scale> Network for Table<S> {
 
     ghost meaning = { table_of S.Scale.algebra };
 
-    ghost lawful = { λ n.
-        table_lawful S.Scale.algebra S.Scale.lawful n.stations n.benches (cell_of n)
-        (record { some = n.some_stations; few = n.few_stations }) (record { some = n.some_benches; few = n.few_benches }) };
+    ghost lawful = { λ n. table_lawful S.Scale.algebra S.Scale.lawful n.stations n.benches (cell_of n) n.sized_stations n.sized_benches };
 
     fn stations(&self) -> usize {
         self.stations
@@ -50,11 +60,8 @@ impl<S: Scale> Network for Table<S> {
         if starts.len() != self.benches || out.len() != self.stations {
             return Err(Refusal::Lengths);
         }
-        let mut at = 0;
-        for i in 0..self.stations {
-            let row = &self.cells[at..at + self.benches];
-            out[i] = row_arrival::<S>(row, starts);
-            at += self.benches;
+        for (i, x) in out.iter_mut().enumerate() {
+            *x = row_arrival::<S>(self.row(i), starts);
         }
         Ok(())
     }
@@ -63,12 +70,9 @@ impl<S: Scale> Network for Table<S> {
         if limits.len() != self.stations || out.len() != self.benches {
             return Err(Refusal::Lengths);
         }
-        raise::<S>(out);
-        let mut at = 0;
-        for i in 0..self.stations {
-            let row = &self.cells[at..at + self.benches];
-            lower_row::<S>(row, limits[i], out);
-            at += self.benches;
+        out.fill(S::HIGHEST);
+        for (i, limit) in limits.iter().enumerate() {
+            lower_row::<S>(self.row(i), *limit, out);
         }
         Ok(())
     }

@@ -11,12 +11,8 @@ use crate::halls::{grades_hall, minutes_hall, minutes_pile};
 use crate::story::plan_story;
 
 fn main(rt: HostRuntime) -> anyhow::Result<()> {
-    run(&rt)
-}
-
-fn run(rt: &HostRuntime) -> anyhow::Result<()> {
-    minutes_hall(rt)?;
-    minutes_pile(rt)?;
-    grades_hall(rt)?;
-    plan_story(rt)
+    minutes_hall(&rt)?;
+    minutes_pile(&rt)?;
+    grades_hall(&rt)?;
+    plan_story(&rt)
 }

@@ -1,10 +1,10 @@
 // The steps of a task, each with its note.
-use anyhow::anyhow;
-use network::{Network, Refusal, reaches_in_time};
+use anyhow::{Context, bail};
+use network::{Network, reaches_in_time};
 
 // Asks for the latest starts that keep two limits, checks them, and tries one more on each bench.
 pub(crate) fn deadlines<N: Network>(
-    rt: &HostRuntime,
+    rt: &impl Print,
     hall: &N,
     limits: [i32; 2],
 ) -> anyhow::Result<()> {
@@ -13,7 +13,8 @@ pub(crate) fn deadlines<N: Network>(
         "  Asked for the latest starts, with {first} the limit of station 0 and {second} that of station 1:"
     )?;
     let mut starts = [0; 2];
-    told(hall.latest(&limits, &mut starts))?;
+    hall.latest(&limits, &mut starts)
+        .context("a list was turned away")?;
     let [x, y] = starts;
     println!(rt; "    bench 0 at {x}, bench 1 at {y}.")?;
     println!(rt; "  Asked what these starts reach:")?;
@@ -26,17 +27,16 @@ pub(crate) fn deadlines<N: Network>(
 
 // Prints what two starts reach, and whether that keeps the limits.
 fn reached<N: Network>(
-    rt: &HostRuntime,
+    rt: &impl Print,
     hall: &N,
     starts: [i32; 2],
     limits: [i32; 2],
 ) -> anyhow::Result<()> {
     let mut arrivals = [0; 2];
-    told(hall.arrivals(&starts, &mut arrivals))?;
+    hall.arrivals(&starts, &mut arrivals)
+        .context("a list was turned away")?;
     let [v, w] = arrivals;
-    let Ok(kept) = reaches_in_time(hall, &starts, &limits) else {
-        return Err(anyhow!("a list was turned away"));
-    };
+    let kept = reaches_in_time(hall, &starts, &limits).context("a list was turned away")?;
     let verdict = if kept {
         "within the limits"
     } else {
@@ -47,24 +47,16 @@ fn reached<N: Network>(
 }
 
 // Asks with a limit too many.
-pub(crate) fn turned_away<N: Network>(rt: &HostRuntime, hall: &N) -> anyhow::Result<()> {
+pub(crate) fn turned_away<N: Network>(rt: &impl Print, hall: &N) -> anyhow::Result<()> {
     println!(rt; "  Asked for the latest starts with three limits:")?;
     let mut starts = [7; 2];
     let Err(refusal) = hall.latest(&[100, 100, 100], &mut starts) else {
-        return Err(anyhow!("a list of another length was taken"));
+        bail!("a list of another length was taken");
     };
-    let number = refusal.number();
     let [x, y] = starts;
     println!(rt;
-        "    turned away with {number}; the list for the answer still holds {x} and {y}."
+        "    turned away with {}; the list for the answer still holds {x} and {y}.",
+        refusal.number(),
     )?;
     Ok(())
-}
-
-// An answer, or the refusal as an error.
-fn told(answer: Result<(), Refusal>) -> anyhow::Result<()> {
-    match answer {
-        Ok(()) => Ok(()),
-        Err(_) => Err(anyhow!("a list was turned away")),
-    }
 }

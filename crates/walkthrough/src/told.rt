@@ -1,52 +1,37 @@
 // Replies in words.
 use crate::asked::Hall;
+use anyhow::bail;
 use journal::{Reply, Starts};
-use model::State;
 
-pub(crate) fn print_reply(rt: &HostRuntime, reply: &Reply<Hall, Hall>) -> anyhow::Result<()> {
+pub(crate) fn print_reply(rt: &impl Print, reply: &Reply<Hall, Hall>) -> anyhow::Result<()> {
     match reply {
-        Reply::Done => rt.println("    done.")?,
-        Reply::Refused(refusal) => {
-            let number = refusal.number();
-            println!(rt; "    refused with {number}.")?;
+        Reply::Changed(Ok(())) => println!(rt; "    done.")?,
+        Reply::Changed(Err(refusal))
+        | Reply::WindowIs(Err(refusal))
+        | Reply::StartsAre(Err(refusal)) => {
+            println!(rt; "    refused with {}.", refusal.number())?
         }
-        Reply::LeftBack(_) | Reply::RightBack(_) => rt.println("    exchanged.")?,
-        Reply::LeftRefused(_) | Reply::RightRefused(_) => rt.println("    not exchanged.")?,
-        Reply::Advanced(state, made) => {
-            let word = word_of(*state);
-            let rounds = *made;
-            println!(rt; "    {word} after {rounds} rounds.")?;
+        Reply::ExchangedLeft(Ok(_)) | Reply::ExchangedRight(Ok(_)) => {
+            println!(rt; "    exchanged.")?
         }
-        Reply::StateIs(state) => {
-            let word = word_of(*state);
-            println!(rt; "    {word}.")?;
+        Reply::ExchangedLeft(Err(_)) | Reply::ExchangedRight(Err(_)) => {
+            println!(rt; "    not exchanged.")?
         }
-        Reply::SlackIs(slack) => {
-            let count = *slack;
-            println!(rt; "    {count}.")?;
+        Reply::Advanced(state, made) => println!(rt; "    {state} after {made} rounds.")?,
+        Reply::StateIs(state) => println!(rt; "    {state}.")?,
+        Reply::SlackIs(slack) => println!(rt; "    {slack}.")?,
+        Reply::WindowIs(Ok(window)) => {
+            println!(rt; "    {} to {}.", window.floor, window.ceiling)?
         }
-        Reply::WindowIs(window) => {
-            let floor = window.floor;
-            let ceiling = window.ceiling;
-            println!(rt; "    {floor} to {ceiling}.")?;
-        }
-        Reply::StartsAre(starts) => print_starts(rt, starts)?,
+        Reply::StartsAre(Ok(starts)) => print_starts(rt, starts)?,
     }
     Ok(())
 }
 
-fn print_starts(rt: &HostRuntime, starts: &Starts) -> anyhow::Result<()> {
-    let x = starts.lefts[0];
-    let y = starts.lefts[1];
-    let z = starts.rights[0];
+fn print_starts(rt: &impl Print, starts: &Starts) -> anyhow::Result<()> {
+    let ([x, y], [z]) = (starts.lefts.as_slice(), starts.rights.as_slice()) else {
+        bail!("the starts of another plan");
+    };
     println!(rt; "    left bench 0 at {x}, left bench 1 at {y}, right bench 0 at {z}.")?;
     Ok(())
-}
-
-fn word_of(state: State) -> &'static str {
-    match state {
-        State::Open => "open",
-        State::InStep => "in step",
-        State::Impossible => "impossible",
-    }
 }

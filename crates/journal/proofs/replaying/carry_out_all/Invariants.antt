@@ -1,5 +1,5 @@
-use Rattle.std.proofs.Common.{◌≡◌, ◌+◌, ◌≤◌, List, ◌++◌, map, vec_len, vec_capacity, deque_items, deque_len}
-use Rattle.model.specs.Runs.{Call}
+use Rattle.std.proofs.Common.{◌≡◌, ◌+◌, ◌≤◌, ◌++◌, map, vec_len, vec_capacity}
+use Rattle.std.specs.Vec.Iter.{into_iter_items, into_iter_len}
 use Rattle.plan.specs.Models.{model}
 use Rattle.journal.specs.Calls.{call_of}
 use Rattle.journal.specs.Journals.{Replayed, replies_of}
@@ -7,12 +7,10 @@ use Rattle.journal.proofs.replaying.carry_out_all.Given as goal
 
 abbrev pub invariant-loop-call : goal.invariant-loop-call
 invariant-loop-call g l =
-    let a = g.L.Network.meaning in
-    let b = g.R.Network.meaning in
-    (done : List Call)
-    × (map (call_of a b) (deque_items l.initial.left) ≡ done ++ map (call_of a b) (deque_items l.left))
-    × Replayed g.L.Over.Scale.algebra (model a b l.initial.plan) done (replies_of l.replies) (model a b l.plan)
-    × (vec_len l.replies + deque_len l.left ≤ vec_capacity l.replies)
-
-abbrev pub decreases-loop-call : goal.decreases-loop-call
-decreases-loop-call g l = deque_len l.left
+    record {
+      can_next : (goal.iterator-loop-call g).can_next l.call-iterator;
+      finite : (goal.iterator-loop-call g).is_finite l.call-iterator;
+      in_order : l.yielded ++ into_iter_items l.call-iterator ≡ into_iter_items l.initial.call-iterator;
+      carried : Replayed g.L.Over.Scale.algebra (model l.initial.plan) (map (call_of g.L.Network.meaning g.R.Network.meaning) l.yielded) (replies_of l.replies) (model l.plan);
+      room : vec_len l.replies + into_iter_len l.call-iterator ≤ vec_capacity l.replies;
+    }

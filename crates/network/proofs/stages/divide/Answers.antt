@@ -1,4 +1,4 @@
-use Rattle.std.proofs.Common.{◌≡◌, ℕ, ℤ, w32, to_z, of_z, rules}
+use Rattle.std.proofs.Common.{rules}
 use Rattle.scale.specs.Algebra.{quotient_of}
 use Rattle.network.specs.Lists.{at}
 use Rattle.network.specs.Kinds.{coefficient_at}
@@ -7,9 +7,8 @@ use Rattle.network.proofs.stages.divide.Goals as goal
 
 pub loop-i-preserved : goal.loop-i-preserved
 loop-i-preserved g c =
-    let f : ℕ → ℤ = λ k. quotient_of g.S.Scale.algebra (coefficient_at c.args.coefficients.now k) (at c.args.limits.now k) in
-    let e : to_z w32 (of_z w32 c.quotient.result) ≡ f c.loop-i.i = search rules in
-    listed_more f c.loop-i.out c.loop-i.i _ (search rules) c.loop-i.invariant e
+    listed_more (λ k. quotient_of g.S.Scale.algebra (coefficient_at c.args.coefficients.now k) (at c.args.limits.now k)) c.loop-i.out c.loop-i.i _
+    (search rules) c.loop-i.invariant (search rules)
 
 pub returns : goal.returns
 returns g c = listed_all _ c.loop-i.out _ (search rules) (λ k h. c.loop-i.invariant k (search rules))

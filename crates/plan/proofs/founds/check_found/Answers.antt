@@ -5,13 +5,6 @@ use Rattle.model.specs.Calls.{size_checks, window_checks}
 use Rattle.benches.specs.Answers.{told, window_answer}
 use Rattle.plan.proofs.founds.check_found.Goals as goal
 
-pub returns-in_err-check_sizes : goal.returns-in_err-check_sizes
-returns-in_err-check_sizes g c =
-    let e = err_from_is_err_and c.from_residual.result c.from_residual.ensures.1 in
-    let sizes = size_checks (g.L.Network.meaning c.args.left.now) (g.R.Network.meaning c.args.right.now) c.args.lefts.now c.args.rights.now in
-    let u = told c.in_err-check_sizes.field-0.0 in
-    rw (e.1, e.2) (early_fault sizes _ u c.in_err-check_sizes.ensures)
-
 pub returns-in_err-check_windows : goal.returns-in_err-check_windows
 returns-in_err-check_windows g c =
     let σ = g.L.Over.Scale.algebra in

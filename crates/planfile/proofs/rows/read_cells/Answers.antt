@@ -1,104 +1,57 @@
-use Rattle.std.proofs.Common.{◌+◌, ◌<◌, [], take, set, Some, None, refl, ap, ◌∙◌, arith, w32, SFits, rules}
-use lib.Seq.{take-set-lt}
-use Rattle.std.proofs.lemmas.List.{length-set, length-take, take-replicate}
+use Rattle.std.proofs.Common.{◌≡◌, ◌+◌, ◌≤◌, List, [], length, take, set, ℤ, Some, None, Option, refl, ap, ◌∙◌, arith, w32, SFits, to_z, of_z, rules}
+use Rattle.std.specs.List.{refill}
+use Rattle.std.proofs.lemmas.List.{length-set, length-replicate, take-replicate}
 use Rattle.std.proofs.lemmas.Int.{to_z-of_z}
-use Rattle.network.specs.declared.refusal.Refusal.TheVariants.{Coefficient}
-use Rattle.layout.specs.Numbers.{number_in}
 use Rattle.layout.proofs.Steps.{left_all, left_as, left_fault, left_more, read_all}
 use Rattle.planfile.specs.Rows.{cells}
 use Rattle.planfile.proofs.Bits.{cells_rest}
-use Rattle.planfile.proofs.Turns.{turn, bit, place, next, more, more_size, more_row}
+use Rattle.planfile.proofs.Turns.{turned, place, next, written}
 use Rattle.planfile.proofs.rows.read_cells.Goals as goal
 
 pub loop-rest-init : goal.loop-rest-init
-loop-rest-init c = (
-  [],
-  c.args.benches,
-  take-replicate c.args.benches 32 None c.requires.few,
-  refl,
-  c.requires.bits,
-  refl,
-  left_all (cells c.args.bounds c.args.benches c.args.map []) c.args.cursor.now,
-)
+loop-rest-init c =
+    let n = c.args.benches.number in
+    let few = c.args.benches.size.few in
+    let row = c.truncate.ensures.items ∙ ap (take n) c.from-row.ensures.0 ∙ take-replicate n 32 None few in
+    record {
+      turn = record { done = []; k = n; shape = row; len = refl; bits = c.requires };
+      full = ap length row ∙ length-replicate n None;
+      left = left_all (cells c.args.bounds n c.args.map []) c.args.cursor.now;
+    }
 
-pub overflow_add-bench : goal.overflow_add-bench
-overflow_add-bench c =
+pub returns-in_err-a-clause-reads : goal.returns-in_err-a-clause-reads
+returns-in_err-a-clause-reads c =
     let i = c.loop-rest.invariant in
-    let t = turn c.args.benches c.loop-rest.row c.loop-rest.bench c.loop-rest.rest i.0 i.1 i.2 i.3 i.4 c.requires.few c.loop-rest-test.true in
-    let h = place c.args.bounds _ _ _ _ t c.next_bit-gap.ensures in
-    let few = t.few in
-    search rules
+    let few : length c.loop-rest.row.items ≤ 32 = omega (arith, i.full, c.args.benches.size.few) in
+    left_fault _ c.in_err-a.field-0.0 (left_as (next c.args.bounds _ _ _ _ i.turn few c.loop-rest-test.true c.next_bit-gap.ensures) i.left) c.in_err-a.ensures c.from_residual.ensures.1
 
-pub overflow_shr-rest : goal.overflow_shr-rest
-overflow_shr-rest c =
+pub bounds-deref_mut-bench : goal.bounds-deref_mut-bench
+bounds-deref_mut-bench c =
     let i = c.loop-rest.invariant in
-    let t = turn c.args.benches c.loop-rest.row c.loop-rest.bench c.loop-rest.rest i.0 i.1 i.2 i.3 i.4 c.requires.few c.loop-rest-test.true in
-    let h = place c.args.bounds _ _ _ _ t c.next_bit-gap.ensures in
-    let few = t.few in
-    omega arith
-
-pub returns-in_err-a : goal.returns-in_err-a
-returns-in_err-a c =
-    let i = c.loop-rest.invariant in
-    let t = turn c.args.benches c.loop-rest.row c.loop-rest.bench c.loop-rest.rest i.0 i.1 i.2 i.3 i.4 c.requires.few c.loop-rest-test.true in
-    let b = c.args.bounds in
-    let whole = cells b c.args.benches c.args.map [] in
-    let cursor = c.args.cursor.now in
-    let left = left_as whole _ _ cursor c.loop-rest.cursor i.6 (next b _ _ _ _ t c.next_bit-gap.ensures) in
-    left_fault whole cursor (number_in b Coefficient) _ c.loop-rest.cursor c.read_number.new.cursor (λ v. v) (take c.args.benches) _ c.from_residual.result
-    left c.in_err-a.ensures c.from_residual.ensures.1
-
-pub offset_bounds-row-bench : goal.offset_bounds-row-bench
-offset_bounds-row-bench c =
-    let i = c.loop-rest.invariant in
-    let t = turn c.args.benches c.loop-rest.row c.loop-rest.bench c.loop-rest.rest i.0 i.1 i.2 i.3 i.4 c.requires.few c.loop-rest-test.true in
-    let h = place c.args.bounds _ _ _ _ t c.next_bit-gap.ensures in
-    let few = t.few in
-    search rules
-
-pub bounds-row-bench : goal.bounds-row-bench
-bounds-row-bench c =
-    let i = c.loop-rest.invariant in
-    let t = turn c.args.benches c.loop-rest.row c.loop-rest.bench c.loop-rest.rest i.0 i.1 i.2 i.3 i.4 c.requires.few c.loop-rest-test.true in
-    let h = place c.args.bounds _ _ _ _ t c.next_bit-gap.ensures in
-    let few = t.few in
-    omega (arith, length-take c.args.benches c.loop-rest.row, i.5)
-
-pub overflow_add-bench-in-loop-rest : goal.overflow_add-bench-in-loop-rest
-overflow_add-bench-in-loop-rest c =
-    let i = c.loop-rest.invariant in
-    let t = turn c.args.benches c.loop-rest.row c.loop-rest.bench c.loop-rest.rest i.0 i.1 i.2 i.3 i.4 c.requires.few c.loop-rest-test.true in
-    let h = place c.args.bounds _ _ _ _ t c.next_bit-gap.ensures in
-    let few = t.few in
-    search rules
+    let few : length c.loop-rest.row.items ≤ 32 = omega (arith, i.full, c.args.benches.size.few) in
+    omega (arith, ap length c.deref_mut.ensures.value, place c.args.bounds _ _ _ _ i.turn few c.loop-rest-test.true c.next_bit-gap.ensures)
 
 pub loop-rest-preserved : goal.loop-rest-preserved
 loop-rest-preserved c =
     let i = c.loop-rest.invariant in
-    let t = turn c.args.benches c.loop-rest.row c.loop-rest.bench c.loop-rest.rest i.0 i.1 i.2 i.3 i.4 c.requires.few c.loop-rest-test.true in
     let b = c.args.bounds in
-    let n = c.args.benches in
-    let whole = cells b n c.args.map [] in
-    let cursor = c.args.cursor.now in
+    let row = c.loop-rest.row.items in
     let a = c.in_ok-a.a in
     let fits : SFits w32 a = search rules in
+    let few : length row ≤ 32 = omega (arith, i.full, c.args.benches.size.few) in
     let at = c.loop-rest.bench + c.next_bit-gap.result in
-    let inside : at < n = omega (arith, place b _ _ _ _ t c.next_bit-gap.ensures, length-take n c.loop-rest.row) in
-    let left = left_as whole _ _ cursor c.loop-rest.cursor i.6 (next b _ _ _ _ t c.next_bit-gap.ensures) in (
-      more b _ _ _ _ t c.next_bit-gap.ensures a,
-      (bit b _ _ _ _ t c.next_bit-gap.ensures).0,
-      ap (λ z. take n (set c.loop-rest.row at (Some z))) (to_z-of_z w32 a fits) ∙ take-set-lt n c.loop-rest.row at (Some a) inside ∙ more_row b _ _ _ _ t c.next_bit-gap.ensures a,
-      more_size b _ _ _ _ t c.next_bit-gap.ensures a,
-      (bit b _ _ _ _ t c.next_bit-gap.ensures).3,
-      length-set c.loop-rest.row at _ ∙ i.5,
-      left_more whole cursor (number_in b Coefficient) _ c.loop-rest.cursor c.read_number.new.cursor (λ v. v) a left c.in_ok-a.ensures,
-    )
+    let next_turn = turned b _ _ _ _ i.turn few c.loop-rest-test.true c.next_bit-gap.ensures a in
+    let put : refill (length row) row (set c.deref_mut.result.now at (Some (to_z w32 (of_z w32 a)))) ≡ set row at (Some a) =
+    ap (λ (r : List (Option ℤ)). refill (length row) row (set r at (Some (to_z w32 (of_z w32 a))))) c.deref_mut.ensures.value ∙ ap (λ (z : ℤ). refill (length row) row (set row at (Some z))) (to_z-of_z w32 a fits) ∙ written row at (Some a) in
+    record {
+      turn = record { done = next_turn.done; k = next_turn.k; shape = put ∙ next_turn.shape; len = next_turn.len; bits = next_turn.bits };
+      full = ap length put ∙ length-set row at (Some a) ∙ i.full;
+      left = left_more _ a (left_as (next b _ _ _ _ i.turn few c.loop-rest-test.true c.next_bit-gap.ensures) i.left) c.in_ok-a.ensures;
+    }
 
-pub returns : goal.returns
-returns c =
+pub returns-clause-reads : goal.returns-clause-reads
+returns-clause-reads c =
     let i = c.loop-rest.invariant in
     let b = c.args.bounds in
-    let whole = cells b c.args.benches c.args.map [] in
-    let cursor = c.args.cursor.now in
-    let none = ap (λ m. cells b i.1 m i.0) c.loop-rest-test.false ∙ cells_rest b i.1 i.0 in
-    read_all whole cursor c.loop-rest.cursor (take c.args.benches) _ c.loop-rest.row (left_as whole _ _ cursor c.loop-rest.cursor i.6 none) i.2
+    let none = ap (λ m. cells b i.turn.k m i.turn.done) c.loop-rest-test.false ∙ cells_rest b i.turn.k i.turn.done in
+    read_all _ i.turn.shape (left_as none i.left)

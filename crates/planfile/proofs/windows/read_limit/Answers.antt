@@ -1,28 +1,25 @@
-use Rattle.std.proofs.Common.{ap, w32, SFits, rules}
+use Rattle.std.proofs.Common.{◌≡◌, true, false, refl, ap, w32, SFits, rules}
 use Rattle.std.proofs.lemmas.Int.{to_z-of_z}
-use Rattle.network.specs.declared.refusal.Refusal.TheVariants.{Window}
-use Rattle.layout.specs.Layouts.{gives}
-use Rattle.layout.specs.Numbers.{number_in}
-use Rattle.layout.proofs.Steps.{left_all, left_as, left_last, read_all}
+use Rattle.layout.proofs.Steps.{left_all, left_as, last_fault, last_value, read_all}
 use Rattle.planfile.specs.Windows.{limit}
 use Rattle.planfile.proofs.windows.read_limit.Goals as goal
 
-pub returns-then-stands : goal.returns-then-stands
+pub returns-then-not-stands : goal.returns-then-not-stands
 unfolding limit
-returns-then-stands c =
-    let b = c.args.bounds in
-    let cursor = c.args.cursor.now in
-    let l = limit b c.args.stands c.args.otherwise in
-    let left = left_as l l (number_in b Window) cursor cursor (left_all l cursor) (ap (λ t. limit b t c.args.otherwise) c.if-stands.true) in
-    left_last l (number_in b Window) cursor cursor c.read_number.new.cursor (λ v. v) c.read_number.result left c.read_number.ensures
+returns-then-not-stands c otherwise =
+    let e : c.args.stands ≡ false = search rules in
+    read_all _ refl (left_as (ap (λ t. limit c.args.bounds t otherwise) e) (left_all _ c.args.cursor.now))
 
-pub returns-else-stands : goal.returns-else-stands
+pub returns-in_err-limit : goal.returns-in_err-limit
 unfolding limit
-returns-else-stands c =
-    let b = c.args.bounds in
-    let d = c.args.otherwise in
-    let cursor = c.args.cursor.now in
-    let fits : SFits w32 d = search rules in
-    let l = limit b c.args.stands d in
-    let left = left_as l l (gives d) cursor cursor (left_all l cursor) (ap (λ t. limit b t d) c.if-stands.false) in
-    read_all l cursor cursor (λ v. v) d _ left (to_z-of_z w32 d fits)
+returns-in_err-limit c otherwise =
+    let e : c.args.stands ≡ true = search rules in
+    last_fault c.in_err-limit.field-0.0 (left_as (ap (λ t. limit c.args.bounds t otherwise) e) (left_all _ c.args.cursor.now)) c.in_err-limit.ensures c.from_residual.ensures.1
+
+pub returns : goal.returns
+unfolding limit
+returns c otherwise =
+    let e : c.args.stands ≡ true = search rules in
+    let v = c.in_ok-limit.limit in
+    let fits : SFits w32 v = search rules in
+    last_value v _ (to_z-of_z w32 v fits) (left_as (ap (λ t. limit c.args.bounds t otherwise) e) (left_all _ c.args.cursor.now)) c.in_ok-limit.ensures

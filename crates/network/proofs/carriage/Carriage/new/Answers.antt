@@ -1,7 +1,7 @@
-use Rattle.std.proofs.Common.{◌≡◌, ℕ, ◌≢◌, length, Some, refl, subst, inr, zero-add, rules}
+use Rattle.std.proofs.Common.{◌≡◌, ℕ, ◌≤◌, ◌≢◌, List, length, ℤ, Some, Option, refl, ap, subst, inr, zero-add, arith, rules}
+use Rattle.std.proofs.lemmas.Grind.{common_steps}
 use Rattle.network.specs.Checks.{Checked, refused}
-use Rattle.network.specs.Kinds.{coefficient_checks}
-use Rattle.network.specs.CarriageLaw.{carriage_same}
+use Rattle.network.specs.Kinds.{carriage, coefficient_checks}
 use Rattle.network.proofs.CarriageChecks.{present_checked, absent_checked}
 use Rattle.network.proofs.carriage.Carriage.new.Goals as goal
 
@@ -13,11 +13,16 @@ returns-in-Some g c =
     let j = c.in-Some.station in
     (inr (e, subst (λ (n : ℕ). Checked (coefficient_checks s 0 cs) (refused (6, Some n))) (zero-add j) (absent_checked s 0 j cs c.in-Some.ensures)), refl)
 
+pub unwrap-requires : goal.unwrap-requires
+unwrap-requires g c =
+    let few : length c.args.coefficients.now ≤ 32 = omega (arith, (g.met.N.Network.lawful c.args.below).stations_size.few) in
+    grind (arith, common_steps)
+
 pub returns : goal.returns
 returns g c =
     let s = g.N.Over.Scale.algebra in
     let cs = c.args.coefficients.now in
     let b = g.N.Network.meaning c.args.below in
     let n : ¬ (length cs ≢ b.stations) = search rules in
-    let e : length cs ≡ b.stations = search rules in
-    ((n, present_checked s 0 cs c.in_default.ensures), carriage_same s c.copied.result cs b (λ k h. c.copied.ensures k (rw e h)))
+    let e : c.unwrap.result.items ≡ cs = search rules in
+    ((n, present_checked s 0 cs c.in_default.ensures), ap (λ (xs : List (Option ℤ)). carriage s xs b) e)

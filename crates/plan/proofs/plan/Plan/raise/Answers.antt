@@ -11,24 +11,25 @@ use Rattle.plan.proofs.plan.Plan.raise.Goals as goal
 pub returns-in_err-check_floor : goal.returns-in_err-check_floor
 returns-in_err-check_floor g c =
     let σ = g.L.Over.Scale.algebra in
-    let p = model g.L.Network.meaning g.R.Network.meaning c.args.self.now in
-    let e = err_from_is_err_and c.from_residual.result c.from_residual.ensures.1 in
-    let k = c.in-Some.ensures in
+    let p = model c.args.self.now in
+    let e = err_from_is_err_and c.from_residual-in_err-check_floor.result c.from_residual-in_err-check_floor.ensures.1 in
+    let k = c.in_ok-b.ensures in
     let v = c.args.floor in
     let n = number c.in_err-check_floor.field-0.0 in
-    let h = subst (λ (z : ℤ). Checked (floor_checks σ p.state c.in-Some.b z) (refused n)) (to_z-of_z w32 v c.ranges.floor) c.in_err-check_floor.ensures in
-    rw (e.1, e.2) (bench_refused p (raised p c.args.side c.args.bench v) c.args.side c.args.bench (λ b. floor_checks σ p.state b v) c.in-Some.b n k.0 k.1 h)
+    let h = subst (λ (z : ℤ). Checked (floor_checks σ p.state c.in_ok-b.b z) (refused n)) (to_z-of_z w32 v c.ranges.floor) c.in_err-check_floor.ensures in
+    rw (e.1, e.2) (bench_refused p (raised p c.args.place.side c.args.place.bench v) c.args.place.side c.args.place.bench (λ b. floor_checks σ p.state b v) c.in_ok-b.b n k.0 k.1 h)
 
 pub returns : goal.returns
 returns g c =
     let σ = g.L.Over.Scale.algebra in
-    let p = model g.L.Network.meaning g.R.Network.meaning c.args.self.now in
-    let p' = model g.L.Network.meaning g.R.Network.meaning c.put.new.self in
-    let b = c.in-Some.b in
-    let k = c.in-Some.ensures in
+    let p = model c.args.self.now in
+    let p' = model c.put.new.self in
+    let b = c.in_ok-b.b in
+    let k = c.in_ok-b.ensures in
     let v = c.args.floor in
     let fits = c.ranges.floor in
     let h = subst (λ (z : ℤ). Checked (floor_checks σ p.state b z) accepted) (to_z-of_z w32 v fits) c.in_ok-check_floor.ensures in
-    let r = simp to_z-of_z at c.raised-row.ensures in
-    let t = simp to_z-of_z at c.state_above-state.ensures in
-    raise_accepted σ p p' c.args.side c.args.bench v b c.raised-row.result c.state_above-state.result k.0 k.1 h r c.put.ensures t
+    let made = c.raised-state in
+    let r = simp to_z-of_z at made.ensures.row in
+    let t = simp to_z-of_z at made.ensures.state in
+    raise_accepted σ p p' c.args.place.side c.args.place.bench v b made.result.0 made.result.1 k.0 k.1 h r c.put.ensures t

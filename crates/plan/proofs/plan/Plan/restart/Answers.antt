@@ -1,9 +1,8 @@
-use Rattle.benches.specs.Records.{records}
 use Rattle.plan.proofs.Changes.{restarted}
 use Rattle.plan.proofs.plan.Plan.restart.Goals as goal
 
 pub returns : goal.returns
 returns g c =
     let p = c.args.self.now in
-    restarted (g.L.Network.meaning p.left) (g.R.Network.meaning p.right) (records p.lefts) (records p.rights)
-    (records c.renew.new.self) (records c.renew-2.new.self) p.state c.renew.ensures c.renew-2.ensures
+    restarted (g.L.Network.meaning p.left.network) (g.R.Network.meaning p.right.network) p.left.benches p.right.benches
+    c.renew.new.self c.renew-2.new.self p.state c.renew.ensures c.renew-2.ensures

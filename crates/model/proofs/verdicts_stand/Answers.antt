@@ -1,5 +1,0 @@
-use Rattle.model.proofs.Stands.{law_stands}
-use Rattle.model.proofs.verdicts_stand.Goals as goal
-
-pub returns : goal.returns
-returns c = law_stands

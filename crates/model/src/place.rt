@@ -1,0 +1,8 @@
+// Where a bench stands.
+
+// A bench of a plan: side 0 is left and 1 is right, benches count from 0.
+#[derive(Clone, Copy, Debug, PartialEq, Eq)]
+pub struct Place {
+    pub side: usize,
+    pub bench: usize,
+}
