@@ -8,7 +8,7 @@ use model::{Bench, State};
 use network::Refusal;
 use scale::Scale;
 
-// Whether a bench may have this ceiling: 7, 11, 8, 13.
+// Whether a bench may have this ceiling: 7, 11, 8, 13. The state and the record are of a plan and of a bench: nothing holds both.
 pub fn check_ceiling<S: Scale>(state: State, b: Bench, ceiling: i32) -> Result<(), Refusal>
     ensures { Checked (ceiling_checks S.Scale.algebra state b ceiling) (answer result) }
 {
@@ -21,13 +21,13 @@ pub fn check_ceiling<S: Scale>(state: State, b: Bench, ceiling: i32) -> Result<(
     if ceiling < b.floor {
         return Err(Refusal::Crossed);
     }
-    match state {
-        State::Impossible => Err(Refusal::Impossible),
-        State::Open | State::InStep => Ok(()),
+    if state == State::Impossible {
+        return Err(Refusal::Impossible);
     }
+    Ok(())
 }
 
-// Whether a bench may have this floor: 7, 11, 8, 13. What is compared with what differs from a ceiling throughout.
+// Whether a bench may have this floor: 7, 11, 8, 13. Each comparison is the other way round than for a ceiling.
 pub fn check_floor<S: Scale>(state: State, b: Bench, floor: i32) -> Result<(), Refusal>
     ensures { Checked (floor_checks S.Scale.algebra state b floor) (answer result) }
 {
@@ -40,10 +40,10 @@ pub fn check_floor<S: Scale>(state: State, b: Bench, floor: i32) -> Result<(), R
     if b.ceiling < floor {
         return Err(Refusal::Crossed);
     }
-    match state {
-        State::Impossible => Err(Refusal::Impossible),
-        State::Open | State::InStep => Ok(()),
+    if state == State::Impossible {
+        return Err(Refusal::Impossible);
     }
+    Ok(())
 }
 
 // Whether a value is no window value of the scale.

@@ -1,4 +1,4 @@
-// Half a round. A network writes into a slice of room on the stack, since nothing here allocates.
+// Half a round. A network writes into a slice of an array: a vector of fixed capacity would be made of that array and cut.
 ghost use Rattle.std.specs.Prelude.{◌≡◌, length};
 ghost use Rattle.model.specs.Plans.{starts, cut, same_list};
 ghost use Rattle.benches.specs.Halves.{hall, LimitedBy, Limited, CutBy};

@@ -43,7 +43,7 @@ pub(crate) fn cut_rows(rows: &mut [Bench], limits: &[i32]) -> bool
     rests
 }
 
-// The sum of start minus floor.
+// The sum of start minus floor. Not by `sum`: of signed numbers a proof knows no bound of it.
 pub(crate) fn sum_room(rows: &[Bench]) -> i64
     requires { length rows.now ≤ 32 }
     ensures value { result ≡ spare rows.now }

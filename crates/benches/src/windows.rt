@@ -15,7 +15,8 @@ pub struct Fault {
     pub place: Option<Place>,
 }
 
-// The first fault of a side's windows: 7 for a floor, 7 for a ceiling, 8 for a floor above its ceiling, bench by bench.
+// The first fault of a side's windows, bench by bench: 7 for a floor, 7 for a ceiling, 8 for a floor above its ceiling. The side is a
+// number, as in a place.
 pub fn check_windows<S: Scale>(side: usize, windows: &[Window]) -> Result<(), Fault>
     ensures { Checked (window_checks S.Scale.algebra side 0 windows.now) (window_answer result) }
 {

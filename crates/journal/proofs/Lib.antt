@@ -1,2 +1,3 @@
 mod Steps
 mod Histories
+mod Standing

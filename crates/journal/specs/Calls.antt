@@ -1,7 +1,5 @@
 -- The calls of a journal and their replies, as calls and replies of the law. Assumes nothing.
 use Rattle.std.specs.Prelude.{◌≡◌, ℕ, Ok, Err, IfOk, Result}
-use Rattle.scale.specs.declared.scale.Scale.{Ghosts as ScaleGhosts}
-use Rattle.network.specs.declared.network.Network.{Ghosts as NetworkGhosts}
 use Rattle.network.specs.declared.refusal.Refusal.{Refusal}
 use Rattle.network.specs.Networks.{Meaning}
 use Rattle.network.specs.Refusals.{number}
@@ -11,8 +9,7 @@ use Rattle.model.specs.Calls.{starts_checks}
 use Rattle.benches.specs.Answers.{answer}
 use Rattle.model.specs.Sheets.{the_left, the_right}
 use Rattle.model.specs.Runs.{Call as TheCall, lower, raise, loosen, exchange, advance, adopt, reading, the_state, the_slack, the_window, the_starts, Reply as TheReply, reply, done, turned_away, advanced, state_is, slack_is, window_is, starts_are}
-use Rattle.plan.specs.declared.plan.Plan.{Plan}
-use Rattle.plan.specs.Exchanges.{exchange_answer, Back}
+use Rattle.plan.specs.Exchanges.{exchange_answer}
 use Rattle.journal.specs.declared.calls.Call.{Call}
 use Rattle.journal.specs.declared.calls.Call.TheVariants.{Lower, Raise, Loosen, ExchangeLeft, ExchangeRight, Advance, Adopt, ReadState, ReadSlack, ReadWindow, ReadStarts}
 use Rattle.journal.specs.declared.replies.Starts.{Starts}
@@ -57,9 +54,3 @@ reply_of (StartsAre r) = told_reply starts_reply r
 pub record StartsRead (p : Model) (m n : ℕ) (r : Result Starts Refusal) : Type 0 where
   pub checks : Checked (starts_checks p m n) (answer r)
   pub told : IfOk r (λ s. (s.lefts.items ≡ starts p.left.table) × (s.rights.items ≡ starts p.right.table))
-
--- what a reply to the call c on the plan p hands back: the network that stood there, or the one that was offered
-abbrev pub HandsBack : {L R S : Type 0} {a : NetworkGhosts L S} {s : ScaleGhosts S} {b : NetworkGhosts R S} → Plan L R S a s b → Call L R → Reply L R → Type 0
-HandsBack {L = L} p c (ExchangedLeft r) = (n : L) × (c ≡ ExchangeLeft n) × Back p.left.network n r
-HandsBack {R = R} p c (ExchangedRight r) = (n : R) × (c ≡ ExchangeRight n) × Back p.right.network n r
-HandsBack p c _ = Unit {0}

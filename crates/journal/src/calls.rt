@@ -6,6 +6,7 @@ pub enum Call<L, R> {
     Lower { place: Place, ceiling: i32 },
     Raise { place: Place, floor: i32 },
     Loosen { place: Place, window: Window },
+    // One a side, since the two networks may be of different types.
     ExchangeLeft(L),
     ExchangeRight(R),
     Advance(u64),

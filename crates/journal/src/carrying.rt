@@ -3,8 +3,9 @@ ghost use Rattle.std.specs.Prelude.{◌≡◌, ◌<◌, OnErr, IfOk, IfErr};
 ghost use Rattle.arrayvec.specs.ArrayVec.{array_vec_len};
 ghost use Rattle.network.specs.Refusals.{number};
 ghost use Rattle.plan.specs.Models.{model};
-ghost use Rattle.journal.specs.Calls.{call_of, reply_of, HandsBack, StartsRead};
+ghost use Rattle.journal.specs.Calls.{call_of, reply_of, StartsRead};
 ghost use Rattle.journal.specs.Journals.{Stepped};
+ghost use Rattle.journal.specs.Networks.{Leaves};
 
 use crate::calls::Call;
 use crate::replies::{Reply, Starts};
@@ -18,7 +19,7 @@ pub fn carry_out<L: Network, R: Network<Over = L::Over>>(
     call: Call<L, R>,
 ) -> Reply<L, R>
     ensures steps { Stepped L.Over.Scale.algebra (model plan.old) (call_of L.Network.meaning R.Network.meaning call) (reply_of result) (model plan.new) }
-    ensures back { HandsBack plan.old call result }
+    ensures networks { Leaves plan.old.left.network plan.old.right.network call result plan.new.left.network plan.new.right.network }
 {
     match call {
         Call::Lower { place, ceiling } => Reply::Changed(plan.lower(place, ceiling)),

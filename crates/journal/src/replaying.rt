@@ -1,6 +1,7 @@
 // Carrying out a whole journal.
 ghost use Rattle.plan.specs.Models.{model};
 ghost use Rattle.journal.specs.Journals.{Replayed, Begins, Replays, calls_of, replies_of};
+ghost use Rattle.journal.specs.Networks.{LeavesAfter};
 
 use crate::carrying::carry_out;
 use crate::entries::Journal;
@@ -10,7 +11,8 @@ use model::Window;
 use network::Network;
 use plan::Plan;
 
-// Founds a plan and carries out the calls of a journal in their order. The plan, and the reply to each call.
+// Founds a plan and carries out the calls of a journal in their order. The plan, and the reply to each call. The networks and
+// windows stay four parameters, as `Plan::found` takes them: a struct of them would be made only to be taken apart here.
 pub fn replay<L: Network + Drop, R: Network<Over = L::Over> + Drop>(
     left: L,
     right: R,
@@ -47,7 +49,8 @@ fn carry_out_all<L: Network + Drop, R: Network<Over = L::Over> + Drop>(
     plan: &mut Plan<L, R>,
     journal: Journal<L, R>,
 ) -> Vec<Reply<L, R>>
-    ensures { Replayed L.Over.Scale.algebra (model plan.old) (calls_of L.Network.meaning R.Network.meaning journal) (replies_of result) (model plan.new) }
+    ensures networks { LeavesAfter plan.old.left.network plan.old.right.network journal.calls.items result.items plan.new.left.network plan.new.right.network }
+    ensures runs { Replayed L.Over.Scale.algebra (model plan.old) (calls_of L.Network.meaning R.Network.meaning journal) (replies_of result) (model plan.new) }
 {
     let Journal {
         calls,

@@ -15,7 +15,7 @@ pub struct Starts {
 pub enum Reply<L, R> {
     // Of a window that was to change, and of an adoption.
     Changed(Result<(), Refusal>),
-    // The network that stood there, or the refusal with the one that was offered.
+    // One a side, as the calls: the network that stood there, or the refusal with the one that was offered.
     ExchangedLeft(Result<L, Unexchanged<L>>),
     ExchangedRight(Result<R, Unexchanged<R>>),
     // The state after an advance, and the rounds made.

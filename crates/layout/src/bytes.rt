@@ -46,7 +46,7 @@ impl<'a> Cursor<'a> {
     }
 }
 
-// The byte at an offset, none past the end.
+// The byte at an offset, none past the end. The library's method, under a clause by offsets.
 fn byte_at(bytes: &[u8], at: usize) -> Option<u8>
     ensures { MatchOption result (length bytes.now ≤ at) (λ v. (at < length bytes.now) × (v ≡ slice_index bytes.now at)) }
 {

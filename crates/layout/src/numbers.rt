@@ -17,7 +17,7 @@ pub fn read_number(cursor: &mut Cursor, bounds: Bounds, refusal: Refusal) -> Res
     within(signed(word), bounds, refusal, byte)
 }
 
-// The number whose two's complement these bits are.
+// The number whose two's complement these bits are. The library's method, under the definition's name.
 fn signed(word: u32) -> i32
     ensures { result ≡ signed word }
 {

@@ -14,7 +14,7 @@ pub enum Part {
 }
 
 impl Part {
-    // The number by which a part is known.
+    // The number by which a part is known: a method of that name, as for a refusal.
     pub fn number(self) -> u8
         ensures { result ≡ part_number self }
     {

@@ -1,4 +1,4 @@
-// A fault that passes up from the bytes gets its line, and then its part.
+// A fault that passes up from the bytes gets its line, and then its part: by methods and not `From`, since each takes a place.
 ghost use Rattle.std.specs.Prelude.{◌≡◌};
 ghost use Rattle.layout.specs.Faults.{on_line, in_part};
 

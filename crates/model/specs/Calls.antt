@@ -1,5 +1,5 @@
 -- The calls on a plan: each is a relation between the plan before, the arguments, the answer and the plan after. Assumes nothing.
-use Rattle.std.specs.Prelude.{◌≡◌, ℕ, zero, suc, ◌<◌, ◌≤◌, cond, ◌≢◌, ◌⊎◌, List, [], ◌∷◌, ◌++◌, map, length, ℤ, pos, ◌<ℤ◌, Some, None, Option, int_lt, slice_index_or}
+use Rattle.std.specs.Prelude.{◌≡◌, ℕ, zero, suc, ◌<◌, ◌≤◌, if◌then◌else◌, ◌≢◌, ◌⊎◌, List, [], ◌∷◌, ◌++◌, map, length, ℤ, pos, ◌<ℤ◌, Some, None, Option, int_lt, slice_index_or}
 use Rattle.std.specs.Int.{int_min}
 use Rattle.scale.specs.Algebra.{Algebra}
 use Rattle.network.specs.Networks.{Meaning}
@@ -119,11 +119,11 @@ raise_checks a p s i v = check 10 (NoBench p s i) ∷ floor_checks a p.state (be
 
 -- a start above the value falls to it, and the plan is then open
 abbrev pub lowered : Model → ℕ → ℕ → ℤ → Model
-lowered p s i v = in_state (cond (int_lt v (bench_of p s i).start) Open p.state) (change_at p s i (lower_bench v))
+lowered p s i v = in_state (if int_lt v (bench_of p s i).start then Open else p.state) (change_at p s i (lower_bench v))
 
 -- a start below the value makes the plan impossible
 abbrev pub raised : Model → ℕ → ℕ → ℤ → Model
-raised p s i v = in_state (cond (int_lt (bench_of p s i).start v) Impossible p.state) (change_at p s i (raise_bench v))
+raised p s i v = in_state (if int_lt (bench_of p s i).start v then Impossible else p.state) (change_at p s i (raise_bench v))
 
 abbrev pub Lowered : Algebra → Model → ℕ → ℕ → ℤ → Answer ℕ → Model → Type 0
 Lowered a p s i v = Changes (lower_checks a p s i v) p (lowered p s i v)

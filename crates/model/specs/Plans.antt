@@ -1,5 +1,5 @@
 -- A plan and its rounds. Assumes nothing.
-use Rattle.std.specs.Prelude.{◌≡◌, ℕ, zero, suc, Bool, cond, ◌&&◌, ◌||◌, List, [], ◌∷◌, map, ℤ, pos, ◌+ℤ◌, ◌-ℤ◌, int_lt}
+use Rattle.std.specs.Prelude.{◌≡◌, ℕ, zero, suc, Bool, if◌then◌else◌, ◌&&◌, ◌||◌, List, [], ◌∷◌, map, ℤ, pos, ◌+ℤ◌, ◌-ℤ◌, int_lt}
 use Rattle.std.specs.Int.{int_min}
 use Rattle.std.specs.List.{list_any}
 use Rattle.std.specs.Ordering.{int_eq}
@@ -50,7 +50,7 @@ abbrev pub unmoved : Hall → Hall → Bool
 unmoved before after = same_list (starts before.table) (starts after.table)
 
 abbrev pub verdict : Bool → Bool → State
-verdict fell rests = cond fell Impossible (cond rests InStep Open)
+verdict fell rests = if fell then Impossible else if rests then InStep else Open
 
 -- the plan p with its halls cut to l and r, and the verdict on them
 abbrev pub judged : Model → Hall → Hall → Model

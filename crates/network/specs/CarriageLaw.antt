@@ -1,12 +1,12 @@
 -- A carriage keeps the law by that of its scale and that of the network below. Assumes nothing.
-use Rattle.std.specs.Prelude.{ℕ, ◌<◌, List, length, ℤ, ◌≤ℤ◌, Option}
-use Rattle.std.proofs.Common.{sym, subst, ◌∙◌}
-use Rattle.scale.specs.Algebra.{Algebra, LawfulScale}
+use Rattle.std.specs.Prelude.{◌≡◌, ℕ, ◌<◌, List, length, ℤ, ◌≤ℤ◌, Option}
+use Rattle.std.proofs.Common.{sym, ap, subst, ◌∙◌}
+use Rattle.scale.specs.Algebra.{Algebra, LawfulScale, product_of, quotient_of}
 use Rattle.scale.proofs.Everywhere.{product_of_value, quotient_of_value, residuated_of}
 use Rattle.network.specs.Lists.{at, ◌≼◌, Row}
 use Rattle.network.specs.Networks.{Meaning, LawfulNetwork}
 use Rattle.network.specs.Kinds.{coefficient_at, carriage, multiplied, divided}
-use Rattle.network.specs.ListsLemmas.{length_listed, at_listed, listed_row, row_at, below_at, at_below}
+use Rattle.network.specs.ListsLemmas.{length_listed, at_listed, listed_same, listed_row, row_at, below_at, at_below}
 
 module _ (s : Algebra) (ok : LawfulScale s) (cs : List (Option ℤ)) where
   multiplied_row : (n : ℕ) (us : List ℤ) → Row s n (multiplied s cs n us)
@@ -45,3 +45,17 @@ module _ (s : Algebra) (ok : LawfulScale s) (cs : List (Option ℤ)) where
         let law = below.residuated x (divided s cs n v) r (divided_row n v) in
         ((λ h. law.0 (forth n (b.arrivals x) v u q h)), (λ h. back n (b.arrivals x) v u q (law.1 h)));
   }
+
+-- only the coefficients of the stations count
+pub carriage_same : (s : Algebra) (cs ds : List (Option ℤ)) (b : Meaning) → ((k : ℕ) → k < b.stations → coefficient_at cs k ≡ coefficient_at ds k) →
+    carriage s cs b ≡ carriage s ds b
+carriage_same s cs ds b e = λ i. record {
+  stations = b.stations;
+  benches = b.benches;
+  arrivals = λ xs. listed_same
+      (λ k. product_of s (coefficient_at cs k) (at (b.arrivals xs) k)) (λ k. product_of s (coefficient_at ds k) (at (b.arrivals xs) k)) b.stations
+      (λ k h. ap (λ a. product_of s a (at (b.arrivals xs) k)) (e k h)) i;
+  latest = λ vs. b.latest (listed_same
+      (λ k. quotient_of s (coefficient_at cs k) (at vs k)) (λ k. quotient_of s (coefficient_at ds k) (at vs k)) b.stations
+      (λ k h. ap (λ a. quotient_of s a (at vs k)) (e k h)) i);
+}

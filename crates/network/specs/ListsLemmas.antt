@@ -1,7 +1,7 @@
 -- Lists by their places. Assumes nothing.
 use Rattle.std.specs.Prelude.{◌≡◌, ℕ, zero, suc, ◌+◌, ◌<◌, List, [], ◌∷◌, length, ℤ, pos, ◌≤ℤ◌, int_le, Bool, true, false, ◌&&◌, T, ◌↔◌, zip, slice_set}
 use Rattle.std.specs.List.{list_all}
-use Rattle.std.proofs.Common.{sym, subst, ◌∙◌, zero-add, le_of_suc-le-suc, arith, below_more}
+use Rattle.std.proofs.Common.{sym, subst, zero-add, le_of_suc-le-suc, arith, below_more}
 use Rattle.std.proofs.lemmas.List.FromFn.{length-map-range_with_len, get_or-map-range_with_len, fill_by_all}
 use Rattle.std.proofs.lemmas.List.Elements.{AllZip-get_or}
 use Rattle.std.proofs.lemmas.List.{get_or-set_same, get_or-set_other}
@@ -23,11 +23,15 @@ pub listed_same : (f g : ℕ → ℤ) (n : ℕ) → ((k : ℕ) → k < n → f k
 listed_same f g n h = listed_all g (listed f n) n (length_listed f n) (λ k l. subst (λ z. z ≡ g k) (sym (at_listed f n k l)) (h k l))
 
 -- one place more of a list that is written in order
+pub written_more : (P : ℕ → ℤ → Type 0) (xs : List ℤ) (i : ℕ) (z : ℤ) → i < length xs → ((k : ℕ) → k < i → P k (at xs k)) → P i z →
+    (k : ℕ) → k < i + 1 → P k (at (slice_set xs i z) k)
+written_more P xs i z h inv here = below_more (λ k. P k (at (slice_set xs i z) k)) i
+    (λ k l. subst (P k) (sym (get_or-set_other xs i k z (pos 0) (λ e. omega (arith, e)))) (inv k l))
+    (subst (P i) (sym (get_or-set_same xs i z (pos 0) h)) here)
+
 pub listed_more : (f : ℕ → ℤ) (xs : List ℤ) (i : ℕ) (z : ℤ) → i < length xs → ((k : ℕ) → k < i → at xs k ≡ f k) → z ≡ f i →
     (k : ℕ) → k < i + 1 → at (slice_set xs i z) k ≡ f k
-listed_more f xs i z h inv here = below_more (λ k. at (slice_set xs i z) k ≡ f k) i
-    (λ k l. get_or-set_other xs i k z (pos 0) (λ e. omega (arith, e)) ∙ inv k l)
-    (get_or-set_same xs i z (pos 0) h ∙ here)
+listed_more f = written_more (λ k z. z ≡ f k)
 
 -- ---- the order and the range by places
 

@@ -62,6 +62,7 @@ impl<N: Network> Network for Carriage<N> {
         if limits.len() != size {
             return Err(Refusal::Lengths);
         }
+        // a vector of fixed capacity would be made of this array and cut
         let mut room = [0; 32];
         let part = &mut room[..size];
         divide::<N::Over>(&self.coefficients, limits, part);

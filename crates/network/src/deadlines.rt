@@ -6,7 +6,8 @@ ghost use Rattle.network.specs.Answers.{Timed};
 use crate::network::Network;
 use crate::refusal::Refusal;
 
-// Whether the starts reach every station by its limit.
+// Whether the starts reach every station by its limit. The arrivals are written into an array: a
+// vector of fixed capacity would be made of it and cut.
 pub fn reaches_in_time<N: Network>(
     network: &N,
     starts: &[i32],

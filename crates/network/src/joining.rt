@@ -56,6 +56,7 @@ impl<A: Network, B: Network<Over = A::Over>> Network for Series<A, B> {
         self.second.arrivals(&room[..self.second.benches()], out)
     }
 
+    // Of the shape of `arrivals`, in the opposite order: a closure for each step would be as long.
     fn latest(&self, limits: &[i32], out: &mut [i32]) -> Result<(), Refusal> {
         let mut room = highest_limits::<A::Over>();
         self.second
@@ -64,14 +65,14 @@ impl<A: Network, B: Network<Over = A::Over>> Network for Series<A, B> {
     }
 }
 
-// Starts that are missing count as the lowest value.
+// Starts that are missing count as the lowest value. A function of its own, so that the value is told by its own definition.
 fn lowest_starts<S: Scale>() -> [i32; 32]
     ensures { result ≡ replicate 32 S.Scale.algebra.lowest }
 {
     [S::LOWEST; 32]
 }
 
-// Limits that are missing count as the highest value.
+// The same for limits. Those that are missing count as the highest value.
 fn highest_limits<S: Scale>() -> [i32; 32]
     ensures { result ≡ replicate 32 S.Scale.algebra.highest }
 {

@@ -39,7 +39,7 @@ pub enum Refusal {
 }
 
 impl Refusal {
-    // The number by which a refusal is known.
+    // The number by which a refusal is known: a method of that name, since the rules speak of numbers.
     pub fn number(self) -> u8
         ensures { result ≡ number self }
     {

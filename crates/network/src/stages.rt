@@ -12,7 +12,8 @@ pub(crate) fn first_absent<S: Scale>(coefficients: &[Option<i32>]) -> Option<usi
     coefficients.iter().position(|a| counted::<S>(*a).is_none())
 }
 
-// Each value becomes its product with its coefficient.
+// Each value becomes its product with its coefficient. Of the shape of `divide` and `hold`, one line each: a closure for it would be
+// as long.
 pub(crate) fn multiply<S: Scale>(coefficients: &[Option<i32>], out: &mut [i32])
     requires { length coefficients.now ≡ length out.old }
     ensures { out.new ≡ multiplied S.Scale.algebra coefficients.now (length out.old) out.old }

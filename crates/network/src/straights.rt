@@ -19,7 +19,7 @@ impl<S: Scale> Straight<S> {
     pub fn new(size: usize) -> Result<Straight<S>, Refusal>
         ensures { Makes (check 4 (¬ (Size size)) ∷ []) number (λ n. straight_of S.Scale.algebra n ≡ straight S.Scale.algebra size) (λ _. Unit {0}) result }
     {
-        if size == 0 || size > 32 {
+        if !(1..=32).contains(&size) {
             return Err(Refusal::Size);
         }
         Ok(Straight {

@@ -3,3 +3,4 @@ pub mod Founding
 pub mod Exchanges
 pub mod Readings
 pub mod Advances
+pub mod Standing

@@ -3,6 +3,7 @@ ghost use Rattle.std.specs.Prelude.{◌≡◌, ◌+◌, ◌-◌, ◌^◌, ◌<�
 ghost use Rattle.model.specs.Calls.{Advanced};
 ghost use Rattle.plan.specs.Models.{model};
 ghost use Rattle.plan.specs.Advances.{AfterEveryRun};
+ghost use Rattle.plan.specs.Standing.{SameNetworks};
 
 use crate::plan::Plan;
 use model::State;
@@ -12,6 +13,7 @@ impl<L: Network, R: Network<Over = L::Over>> Plan<L, R> {
     // Makes rounds until a verdict falls, at most `grant`. The state, and how many were made. By a rule of the project a loop that
     // breaks with both, and not a `for` over the grant.
     pub fn advance(&mut self, grant: u64) -> (State, u64)
+        ensures networks { SameNetworks self.old self.new }
         ensures advanced { Advanced (model self.old) grant result.0 result.1 (model self.new) }
         ensures foretold { AfterEveryRun L.Over.Scale.algebra (model self.old) grant result.0 result.1 (model self.new) }
     {

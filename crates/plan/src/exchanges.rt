@@ -5,6 +5,7 @@ ghost use Rattle.model.specs.Calls.{same_size_checks, Exchanged, Adopted};
 ghost use Rattle.benches.specs.Answers.{answer};
 ghost use Rattle.plan.specs.Models.{model};
 ghost use Rattle.plan.specs.Exchanges.{exchange_answer, Back};
+ghost use Rattle.plan.specs.Standing.{Stand, SameNetworks, standing};
 
 use crate::exchanged::Unexchanged;
 use crate::plan::Plan;
@@ -16,6 +17,7 @@ impl<L: Network, R: Network<Over = L::Over>> Plan<L, R> {
     pub fn exchange_left(&mut self, network: L) -> Result<L, Unexchanged<L>>
         ensures call { Exchanged (model self.old) the_left (L.Network.meaning network) (exchange_answer result) (model self.new) }
         ensures back { Back self.old.left.network network result }
+        ensures networks { Stand (standing self.old.left.network network result) self.old.right.network self.new }
     {
         let network = sized_as(&self.left.network, network)?;
         let old = std::mem::replace(&mut self.left.network, network);
@@ -27,6 +29,7 @@ impl<L: Network, R: Network<Over = L::Over>> Plan<L, R> {
     pub fn exchange_right(&mut self, network: R) -> Result<R, Unexchanged<R>>
         ensures call { Exchanged (model self.old) the_right (R.Network.meaning network) (exchange_answer result) (model self.new) }
         ensures back { Back self.old.right.network network result }
+        ensures networks { Stand self.old.left.network (standing self.old.right.network network result) self.new }
     {
         let network = sized_as(&self.right.network, network)?;
         let old = std::mem::replace(&mut self.right.network, network);
@@ -36,7 +39,8 @@ impl<L: Network, R: Network<Over = L::Over>> Plan<L, R> {
 
     // Sets every ceiling to its start: 14.
     pub fn adopt(&mut self) -> Result<(), Refusal>
-        ensures { Adopted (model self.old) (answer result) (model self.new) }
+        ensures networks { SameNetworks self.old self.new }
+        ensures call { Adopted (model self.old) (answer result) (model self.new) }
     {
         if self.state != State::InStep {
             return Err(Refusal::NotInStep);

@@ -4,6 +4,7 @@ ghost use Rattle.model.specs.Sheets.{own_sheet, fresh};
 ghost use Rattle.model.specs.Calls.{change_at};
 ghost use Rattle.plan.specs.Models.{model};
 ghost use Rattle.plan.specs.Readings.{BenchAt};
+ghost use Rattle.plan.specs.Standing.{SameNetworks};
 
 use crate::plan::Plan;
 use model::{Bench, Place, State};
@@ -22,9 +23,10 @@ impl<L: Network, R: Network<Over = L::Over>> Plan<L, R> {
         b.ok_or(Refusal::Place)
     }
 
-    // Puts another record in the place of a bench's.
+    // Puts another record in the place of a bench's, whose side is a number as above.
     pub(crate) fn put(&mut self, place: Place, row: Bench)
-        ensures { model self.new ≡ change_at (model self.old) place.side place.bench (λ _. row) }
+        ensures networks { SameNetworks self.old self.new }
+        ensures plan { model self.new ≡ change_at (model self.old) place.side place.bench (λ _. row) }
     {
         match place.side {
             0 => self.left.benches.put(place.bench, row),
@@ -35,7 +37,8 @@ impl<L: Network, R: Network<Over = L::Over>> Plan<L, R> {
 
     // Every start at its ceiling, and the plan open.
     pub(crate) fn restart(&mut self)
-        ensures { model self.new ≡ fresh (own_sheet (model self.old)) }
+        ensures networks { SameNetworks self.old self.new }
+        ensures plan { model self.new ≡ fresh (own_sheet (model self.old)) }
     {
         self.left.benches.renew();
         self.right.benches.renew();

@@ -6,6 +6,7 @@ ghost use Rattle.model.specs.declared.state.State.TheVariants.{Open, Impossible}
 ghost use Rattle.model.specs.Sheets.{window, own_sheet, fresh};
 ghost use Rattle.benches.specs.Answers.{answer};
 ghost use Rattle.plan.specs.Models.{model};
+ghost use Rattle.plan.specs.Standing.{SameNetworks};
 
 use crate::plan::Plan;
 use benches::{check_ceiling, check_floor, check_wider, check_window_values};
@@ -16,7 +17,8 @@ use scale::Scale;
 impl<L: Network, R: Network<Over = L::Over>> Plan<L, R> {
     // Sets a ceiling, which may only go down: 10, 7, 11, 8, 13.
     pub fn lower(&mut self, place: Place, ceiling: i32) -> Result<(), Refusal>
-        ensures { Lowered L.Over.Scale.algebra (model self.old) place.side place.bench ceiling (answer result) (model self.new) }
+        ensures networks { SameNetworks self.old self.new }
+        ensures call { Lowered L.Over.Scale.algebra (model self.old) place.side place.bench ceiling (answer result) (model self.new) }
     {
         let b = self.bench(place)?;
         check_ceiling::<L::Over>(self.state, b, ceiling)?;
@@ -28,7 +30,8 @@ impl<L: Network, R: Network<Over = L::Over>> Plan<L, R> {
 
     // Sets a floor, which may only go up: 10, 7, 11, 8, 13. Of the shape of `lower`, but the checks, the record and the state differ.
     pub fn raise(&mut self, place: Place, floor: i32) -> Result<(), Refusal>
-        ensures { Raised L.Over.Scale.algebra (model self.old) place.side place.bench floor (answer result) (model self.new) }
+        ensures networks { SameNetworks self.old self.new }
+        ensures call { Raised L.Over.Scale.algebra (model self.old) place.side place.bench floor (answer result) (model self.new) }
     {
         let b = self.bench(place)?;
         check_floor::<L::Over>(self.state, b, floor)?;
@@ -40,7 +43,8 @@ impl<L: Network, R: Network<Over = L::Over>> Plan<L, R> {
 
     // Sets a floor and a ceiling, which may only widen the window, and makes a fresh start: 10, 7, 11.
     pub fn loosen(&mut self, place: Place, window: Window) -> Result<(), Refusal>
-        ensures { Loosened L.Over.Scale.algebra (model self.old) place.side place.bench window.floor window.ceiling (answer result) (model self.new) }
+        ensures networks { SameNetworks self.old self.new }
+        ensures call { Loosened L.Over.Scale.algebra (model self.old) place.side place.bench window.floor window.ceiling (answer result) (model self.new) }
     {
         let b = self.bench(place)?;
         check_loosen::<L::Over>(b, window)?;
@@ -50,14 +54,15 @@ impl<L: Network, R: Network<Over = L::Over>> Plan<L, R> {
 
     // Puts another record in the place of a bench's, and makes a fresh start.
     fn put_and_restart(&mut self, place: Place, row: Bench)
-        ensures { model self.new ≡ fresh (own_sheet (change_at (model self.old) place.side place.bench (λ _. row))) }
+        ensures networks { SameNetworks self.old self.new }
+        ensures plan { model self.new ≡ fresh (own_sheet (change_at (model self.old) place.side place.bench (λ _. row))) }
     {
         self.put(place, row);
         self.restart();
     }
 }
 
-// The record of a bench after a ceiling, and the plan's state: open where the ceiling cuts the start.
+// The record of a bench after a ceiling, and the plan's state, which nothing else holds together: open where the ceiling cuts the start.
 fn lowered(state: State, b: Bench, ceiling: i32) -> (Bench, State)
     ensures row { result.0 ≡ lower_bench ceiling b }
     ensures state { result.1 ≡ (if int_lt ceiling b.start then Open else state) }

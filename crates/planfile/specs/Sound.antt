@@ -1,4 +1,4 @@
--- The head of a file that is accepted, as the plain head that it says. Assumes nothing.
+-- The head of a file that is accepted, with its sizes as numbers. Assumes nothing.
 use Rattle.planfile.specs.declared.heads.Head.{Head}
 use Rattle.planfile.specs.declared.heads.SoundHead.{SoundHead}
 

@@ -25,6 +25,7 @@ pub(crate) fn read_rows(
     ensures len { IfOk result (λ cells. length cells.items ≡ stations.number * benches.number) }
 {
     let mut cells = ArrayVec::new();
+    // the number is the line: there is no list to go over
     for i in 0..stations.number {
         let row = read_row(cursor, benches, bounds).map_err(move |f| f.on_line(i))?;
         cells.try_extend_from_slice(row.as_slice()).unwrap();
@@ -41,6 +42,7 @@ pub(crate) fn read_windows(
     ensures { Reads (windows_of bounds benches.number 0 []) cursor.old cursor.new windows_in result }
 {
     let mut list = ArrayVec::new();
+    // as above
     for i in 0..benches.number {
         let w = read_window(cursor, bounds).map_err(move |f| f.on_line(i))?;
         list.push(w);

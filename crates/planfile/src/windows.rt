@@ -22,14 +22,14 @@ pub(crate) fn read_window(cursor: &mut Cursor, bounds: Bounds) -> Result<Window,
     }
     let floor = read_limit(cursor, floor_stands(map), bounds)?;
     let ceiling = read_limit(cursor, ceiling_stands(map), bounds)?;
-    in_order(
-        floor_or_least(floor, bounds),
-        ceiling_or_greatest(ceiling, bounds),
-        byte,
-    )
+    let window = Window {
+        floor: floor_or_least(floor, bounds),
+        ceiling: ceiling_or_greatest(ceiling, bounds),
+    };
+    in_order(window, byte)
 }
 
-// The limit, if it stands in the file.
+// The limit, if it stands in the file, which a bit of the map says. Not by `then`, since what is read may fail.
 fn read_limit(cursor: &mut Cursor, stands: bool, bounds: Bounds) -> Result<Option<i32>, ByteFault>
     ensures { (otherwise : ℤ) → Reads (limit bounds stands otherwise) cursor.old cursor.new (λ v. unwrap_or v otherwise) result }
 {
@@ -54,6 +54,7 @@ fn ceiling_or_greatest(ceiling: Option<i32>, bounds: Bounds) -> i32
     ceiling.unwrap_or(bounds.greatest)
 }
 
+// Each bit has a function of its own, told by its own definition.
 fn floor_stands(map: u8) -> bool
     ensures { result ≡ has_floor map }
 {
@@ -67,11 +68,11 @@ fn ceiling_stands(map: u8) -> bool
 }
 
 // The window, or 8 at the map's byte where the floor is above the ceiling.
-fn in_order(floor: i32, ceiling: i32, map_byte: usize) -> Result<Window, ByteFault>
-    ensures { result ≡ in_order floor ceiling map_byte }
+fn in_order(w: Window, map_byte: usize) -> Result<Window, ByteFault>
+    ensures { result ≡ in_order w.floor w.ceiling map_byte }
 {
-    if floor <= ceiling {
-        Ok(Window { floor, ceiling })
+    if w.floor <= w.ceiling {
+        Ok(w)
     } else {
         Err(ByteFault {
             refusal: Refusal::Crossed,

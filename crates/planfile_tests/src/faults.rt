@@ -39,6 +39,7 @@ fn due(count: usize) -> (u8, usize, usize) {
 
 #[test]
 fn of_every_prefix(rt: HostRuntime) {
+    // the number is the length of a prefix
     for count in 0..72usize {
         let (part, line, byte) = due(count);
         assert_eq!(rt; refusal(&FILE[0..count]), Some((1, part, line, byte)));

@@ -13,9 +13,10 @@ fn put(file: &mut [u8], at: usize, value: u8) {
 
 // A row at an offset: the coefficient of bench j is j.
 fn put_row(file: &mut [u8], at: usize) {
-    for k in 0..4usize {
-        put(file, at.wrapping_add(k), 255);
+    if let Some(map) = file.get_mut(at..at.saturating_add(4)) {
+        map.fill(255);
     }
+    // the number is the coefficient, and its offset
     for j in 0..32u8 {
         put(file, at.wrapping_add(7).wrapping_add(4 * usize::from(j)), j);
     }
@@ -29,6 +30,7 @@ fn full() -> [u8; COUNT] {
 }
 
 fn put_rows(file: &mut [u8]) {
+    // by offsets, as the file stands
     for row in 0..64usize {
         put_row(file, 5 + 132 * row);
     }

@@ -11,6 +11,7 @@ pub(crate) fn minutes(file: &[u8]) -> Result<Contents<Minutes>, Fail> {
     Ok(contents)
 }
 
+// Of the shape of `minutes`, over another variant and another type.
 fn grades(file: &[u8]) -> Result<Contents<Grades>, Fail> {
     let Ok(PlanFile::Grades(contents)) = read_plan(file) else {
         return Err(Fail::new("no plan in grades"));

@@ -1,5 +1,5 @@
 -- What a scale is: a range of whole numbers with its limits, and a product and a quotient that undo each other. Assumes nothing.
-use Rattle.std.specs.Prelude.{◌≡◌, Bool, cond, ◌&&◌, T, ◌↔◌, ℤ, pos, negsuc, ◌≤ℤ◌, Some, None, Option, int_le, int_lt}
+use Rattle.std.specs.Prelude.{◌≡◌, Bool, if◌then◌else◌, ◌&&◌, T, ◌↔◌, ℤ, pos, negsuc, ◌≤ℤ◌, Some, None, Option, int_le, int_lt}
 use Rattle.std.specs.Int.{int_max, int_min}
 
 -- The numbers of a scale and its two operations. A coefficient may be absent.
@@ -71,7 +71,7 @@ present s a = int_lt s.lowest (s.product (Some a) s.highest) && of_scale s a
 -- a coefficient that is not present counts as absent
 abbrev pub counted : Algebra → Option ℤ → Option ℤ
 counted s None = None
-counted s (Some a) = cond (present s a) (Some a) None
+counted s (Some a) = if present s a then Some a else None
 
 -- the product and the quotient of every coefficient and value
 abbrev pub product_of : Algebra → Option ℤ → ℤ → ℤ

@@ -1,5 +1,5 @@
 -- Fit grades: 0 to 15, 15 the finest. Absent is 0. Assumes nothing.
-use Rattle.std.specs.Prelude.{cond, ℤ, pos, Option, int_le}
+use Rattle.std.specs.Prelude.{if◌then◌else◌, ℤ, pos, Option, int_le}
 use Rattle.std.specs.Int.{int_min}
 use Rattle.std.specs.Option.{unwrap_or}
 use Rattle.scale.specs.Algebra.{Algebra}
@@ -8,7 +8,7 @@ abbrev pub grades_product : Option ℤ → ℤ → ℤ
 grades_product a x = int_min (unwrap_or a (pos 0)) x
 
 abbrev pub grades_quotient : Option ℤ → ℤ → ℤ
-grades_quotient a b = cond (int_le (unwrap_or a (pos 0)) b) (pos 15) b
+grades_quotient a b = if int_le (unwrap_or a (pos 0)) b then pos 15 else b
 
 abbrev pub grades : Algebra
 grades = record {

@@ -39,6 +39,7 @@ pub fn held<S: Scale>(x: i32) -> i32
     clamped(x, S::LOWEST, S::HIGHEST)
 }
 
+// Not by `clamp`, which asks that low is at most high.
 fn clamped(x: i32, low: i32, high: i32) -> i32
     ensures { result ≡ clamped low high x }
 {

@@ -27,17 +27,17 @@ impl Scale for Grades {
 
     const GREATEST_COEFFICIENT: i32 = FINEST;
 
-    ghost LOWEST = { pos 0 };
+    ghost LOWEST = { grades.lowest };
 
-    ghost HIGHEST = { pos 15 };
+    ghost HIGHEST = { grades.highest };
 
-    ghost LEAST_WINDOW = { pos 0 };
+    ghost LEAST_WINDOW = { grades.least_window };
 
-    ghost GREATEST_WINDOW = { pos 15 };
+    ghost GREATEST_WINDOW = { grades.greatest_window };
 
-    ghost LEAST_COEFFICIENT = { pos 0 };
+    ghost LEAST_COEFFICIENT = { grades.least_coefficient };
 
-    ghost GREATEST_COEFFICIENT = { pos 15 };
+    ghost GREATEST_COEFFICIENT = { grades.greatest_coefficient };
 
     ghost algebra = { grades };
 

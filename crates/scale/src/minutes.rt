@@ -57,6 +57,7 @@ impl Scale for Minutes {
         coefficient(a).map_or(VOID, |a| later(a, x))
     }
 
+    // Of the shape of `product`, but both the step and what stands for absent differ.
     fn quotient(a: Option<i32>, b: i32) -> i32 {
         coefficient(a).map_or(OPEN, |a| earlier(a, b))
     }
@@ -79,12 +80,8 @@ fn later(a: i32, x: i32) -> i32
         VOID
     } else if x > Q {
         OPEN
-    } else if a + x < -Q {
-        -Q
-    } else if a + x > Q {
-        Q
     } else {
-        a + x
+        (a + x).clamp(-Q, Q)
     }
 }
 
@@ -97,9 +94,7 @@ fn earlier(a: i32, b: i32) -> i32
         VOID
     } else if b > Q {
         OPEN
-    } else if b == Q {
-        Q
-    } else if b - a > Q {
+    } else if b == Q || b - a > Q {
         Q
     } else if b - a < -Q {
         VOID

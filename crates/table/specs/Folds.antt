@@ -40,6 +40,9 @@ module _ (d : ℤ) (f : ℕ → ℤ) where
   smallest_most (suc n) z l h = min_above _ _ z (smallest_most n z l (λ j q. h j (omega arith))) (h n (omega arith))
 
   -- a turn of the loop over a column
+  pub largest_more : (n : ℕ) (top p r : ℤ) → top ≡ largest d f n → p ≡ f n → r ≡ int_max top p → r ≡ largest d f (n + 1)
+  largest_more n top p r t e h = h ∙ ap₂ int_max t e ∙ rw add-one
+
   pub smallest_more : (n : ℕ) (least q r : ℤ) → least ≡ smallest d f n → q ≡ f n → r ≡ int_min least q → r ≡ smallest d f (n + 1)
   smallest_more n least q r t e h = h ∙ ap₂ int_min t e ∙ rw add-one
 

@@ -6,7 +6,7 @@ ghost use Rattle.network.specs.Refusals.{number};
 ghost use Rattle.table.specs.Cells.{asked, table_checks, Holds};
 
 use crate::rows::ABSENT;
-use crate::table::Table;
+use crate::table::{MOST, Table};
 use arrayvec::ArrayVec;
 use network::Refusal;
 use scale::{Scale, counted};
@@ -17,7 +17,7 @@ impl<S: Scale> Table<S> {
     pub fn new(stations: usize, benches: usize, cells: &[Option<i32>]) -> Result<Table<S>, Refusal>
         ensures { Makes (table_checks stations benches (length cells.now)) number (Holds S.Scale.algebra stations benches cells.now) (λ _. Unit {0}) result }
     {
-        if stations == 0 || stations > 32 || benches == 0 || benches > 32 {
+        if !(1..=32).contains(&stations) || !(1..=32).contains(&benches) {
             return Err(Refusal::Size);
         }
         if cells.len() != stations * benches {
@@ -33,7 +33,7 @@ impl<S: Scale> Table<S> {
 }
 
 // The numbers that stand for the coefficients.
-fn kept_cells<S: Scale>(cells: &[Option<i32>]) -> ArrayVec<i32, 1024>
+fn kept_cells<S: Scale>(cells: &[Option<i32>]) -> ArrayVec<i32, MOST>
     requires { length cells.now ≤ 1024 }
     ensures count { length result.items ≡ length cells.now }
     ensures cells { map asked result.items ≡ map (counted S.Scale.algebra) cells.now }

@@ -10,7 +10,7 @@ use network::{Network, Refusal};
 use scale::Scale;
 
 impl<S> Table<S> {
-    // The coefficient of a station and a bench, none where there is no such place.
+    // The coefficient of a station and a bench, none where there is no such place. Not by `then`, which would give an option of one.
     pub fn cell(&self, station: usize, bench: usize) -> Option<i32>
         ensures { result ≡ (if nat_lt station self.now.stations && nat_lt bench self.now.benches then cell_of self.now station bench else None) }
     {

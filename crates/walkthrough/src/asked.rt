@@ -8,7 +8,7 @@ pub(crate) type Hall = Table<Minutes>;
 
 type Asked = (&'static str, Call<Hall, Hall>);
 
-// The first plan, solving again, a refusal, an impossible plan, and a way out.
+// The first plan, solving again, a refusal, an impossible plan, and one that is loosened.
 pub(crate) fn story() -> [Asked; 20] {
     [
         ("Advance, with 301 rounds granted", Call::Advance(301)),
@@ -68,7 +68,7 @@ fn floor(side: usize, floor: i32) -> Call<Hall, Hall> {
     Call::Raise { place, floor }
 }
 
-// The window of the first right bench, to 0 to 100.
+// The first right bench with the window 0 to 100.
 fn loosened() -> Call<Hall, Hall> {
     let place = Place { side: 1, bench: 0 };
     let window = Window {

@@ -24,6 +24,7 @@ pub(crate) fn plan_story(rt: &(impl Print + AllocGlobal)) -> anyhow::Result<()> 
         .into_iter()
         .map(|(_, call)| call)
         .collect(rt.alloc())?;
+    // not by `context`: what comes back are the calls, which are no error
     let Ok(journal) = Journal::new(rt.alloc(), calls) else {
         bail!("no memory for the replies");
     };

@@ -11,19 +11,19 @@ pub returns-in-Lower-clause-steps : goal.returns-in-Lower-clause-steps
 returns-in-Lower-clause-steps g c =
     let value = c.in-Lower.ceiling in
     let fits : SFits w32 value = search rules in
-    let does = rw (to_z-of_z w32 value fits) at c.lower.ensures in
+    let does = rw (to_z-of_z w32 value fits) at c.lower.ensures.call in
     rw c.in-Lower.is (leads tt (answer c.lower.result, does, refl))
 
 pub returns-in-Raise-clause-steps : goal.returns-in-Raise-clause-steps
 returns-in-Raise-clause-steps g c =
     let value = c.in-Raise.floor in
     let fits : SFits w32 value = search rules in
-    let does = rw (to_z-of_z w32 value fits) at c.raise.ensures in
+    let does = rw (to_z-of_z w32 value fits) at c.raise.ensures.call in
     rw c.in-Raise.is (leads tt (answer c.raise.result, does, refl))
 
 pub returns-in-Loosen-clause-steps : goal.returns-in-Loosen-clause-steps
 returns-in-Loosen-clause-steps g c =
-    rw c.in-Loosen.is (leads tt (answer c.loosen.result, c.loosen.ensures, refl))
+    rw c.in-Loosen.is (leads tt (answer c.loosen.result, c.loosen.ensures.call, refl))
 
 pub returns-in-ExchangeLeft-clause-steps : goal.returns-in-ExchangeLeft-clause-steps
 returns-in-ExchangeLeft-clause-steps g c =
@@ -35,7 +35,7 @@ returns-in-ExchangeRight-clause-steps g c =
 
 pub returns-in-Adopt-clause-steps : goal.returns-in-Adopt-clause-steps
 returns-in-Adopt-clause-steps g c =
-    rw c.in-Adopt.is (leads tt (answer c.adopt.result, c.adopt.ensures, refl))
+    rw c.in-Adopt.is (leads tt (answer c.adopt.result, c.adopt.ensures.call, refl))
 
 pub returns-in-ReadState-clause-steps : goal.returns-in-ReadState-clause-steps
 returns-in-ReadState-clause-steps g c =

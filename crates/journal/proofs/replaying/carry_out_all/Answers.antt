@@ -2,6 +2,7 @@ use Rattle.std.proofs.Common.{◌≡◌, [], ◌∷◌, deque_len, sym, refl, ap
 use Rattle.std.specs.Vec.Iter.{into_iter_items}
 use Rattle.std.proofs.lemmas.List.{nil_from_length, map-append}
 use Rattle.journal.proofs.Histories.{replay_none, replay_more}
+use Rattle.journal.proofs.Standing.{leaves_more}
 use Rattle.journal.proofs.replaying.carry_out_all.Goals as goal
 
 pub loop-call-init : goal.loop-call-init
@@ -12,6 +13,7 @@ loop-call-init g c =
       finite = tt;
       in_order = refl;
       carried = rw blank (replay_none _ _);
+      stand = rw blank (refl, refl);
       room = omega (arith, c.args.journal.blank, c.args.journal.enough, ap deque_len c.into_iter-call-iterator.ensures.into_iter_gives.0);
     }
 
@@ -25,6 +27,7 @@ loop-call-preserved g c =
       finite = tt;
       in_order = append_assoc at.yielded (call ∷ []) _ ∙ rw (← steps.0) at.invariant.in_order;
       carried = simp (map-append, c.push_reserved.ensures.items) (replay_more _ _ _ _ _ _ _ _ at.invariant.carried c.carry_out.ensures.steps);
+      stand = rw c.push_reserved.ensures.items (leaves_more _ _ at.yielded _ _ _ call c.carry_out.result _ _ at.invariant.stand c.carry_out.ensures.networks);
       room = omega (arith, at.invariant.room, steps.1, c.push_reserved.ensures.len, c.push_reserved.ensures.capacity);
     }
 
@@ -34,4 +37,4 @@ returns g c =
     let gone = c.in-None.ensures.steps in
     let empty : into_iter_items at.call-iterator ≡ [] = nil_from_length _ (search rules) in
     let all = sym (append-nil at.yielded) ∙ rw empty at at.invariant.in_order ∙ c.into_iter-call-iterator.ensures.into_iter_gives.1 in
-    rw all at at.invariant.carried
+    record { networks = rw all at at.invariant.stand; runs = rw all at at.invariant.carried }

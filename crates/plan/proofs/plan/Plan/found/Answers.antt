@@ -1,3 +1,4 @@
+use Rattle.std.proofs.Common.{refl}
 use Rattle.model.proofs.Accepted.{found_accepted}
 use Rattle.plan.proofs.Founded.{founded, counted}
 use Rattle.plan.proofs.plan.Plan.found.Goals as goal
@@ -15,7 +16,9 @@ invariant_of-result-2 g c =
     record { one_each = counted m c.args.rights.now c.fresh-2.result (g.met.R.Network.lawful c.args.right).benches_size.few a.rights c.fresh-2.ensures }
 
 pub returns : goal.returns
-returns g c =
-    founded g.L.Over.Scale.algebra g.met.L.Over.Scale.lawful (g.L.Network.meaning c.args.left) (g.R.Network.meaning c.args.right)
-    (g.met.L.Network.lawful c.args.left) (g.met.R.Network.lawful c.args.right) c.args.lefts.now c.args.rights.now
-    c.fresh.result c.fresh-2.result c.in_default.ensures c.fresh.ensures c.fresh-2.ensures
+returns g c = (
+  founded g.L.Over.Scale.algebra g.met.L.Over.Scale.lawful (g.L.Network.meaning c.args.left) (g.R.Network.meaning c.args.right)
+      (g.met.L.Network.lawful c.args.left) (g.met.R.Network.lawful c.args.right) c.args.lefts.now c.args.rights.now
+      c.fresh.result c.fresh-2.result c.in_default.ensures c.fresh.ensures c.fresh-2.ensures,
+  record { left = refl; right = refl },
+)

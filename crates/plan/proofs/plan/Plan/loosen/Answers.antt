@@ -9,4 +9,4 @@ returns g c =
     let q = model c.put_and_restart.new.self in
     let k = c.in_ok-b.ensures in
     let w = c.args.window in
-    loosen_accepted σ p q c.args.place.side c.args.place.bench w.floor w.ceiling c.in_ok-b.b c.widened.result k.0 k.1 c.in_ok-check_loosen.ensures c.widened.ensures c.put_and_restart.ensures
+    record { networks = c.put_and_restart.ensures.networks; call = loosen_accepted σ p q c.args.place.side c.args.place.bench w.floor w.ceiling c.in_ok-b.b c.widened.result k.0 k.1 c.in_ok-check_loosen.ensures c.widened.ensures c.put_and_restart.ensures.plan }

@@ -1,8 +1,12 @@
+use Rattle.std.proofs.Common.{refl}
 use Rattle.plan.proofs.Changes.{restarted}
 use Rattle.plan.proofs.plan.Plan.restart.Goals as goal
 
 pub returns : goal.returns
 returns g c =
     let p = c.args.self.now in
-    restarted (g.L.Network.meaning p.left.network) (g.R.Network.meaning p.right.network) p.left.benches p.right.benches
-    c.renew.new.self c.renew-2.new.self p.state c.renew.ensures c.renew-2.ensures
+    record {
+      networks = record { left = refl; right = refl };
+      plan = restarted (g.L.Network.meaning p.left.network) (g.R.Network.meaning p.right.network) p.left.benches p.right.benches
+          c.renew.new.self c.renew-2.new.self p.state c.renew.ensures c.renew-2.ensures;
+    }
