@@ -1,5 +1,5 @@
 -- Every file is read exactly as it is written. Assumes nothing.
-use Rattle.std.proofs.Common.{◌≡◌, ℕ, ◌<◌, true, false, cond, ltb, List, [], ◌++◌, length, drop, Ok, Err, sym, refl, ap, ◌∙◌, inl, inr, ⊎_elim, arith}
+use Rattle.std.proofs.Common.{◌≡◌, ℕ, ◌<◌, true, false, cond, ltb, List, [], ◌++◌, length, drop, Ok, Err, Result, ◌↔◌, ◌⊎◌, sym, refl, ap, ◌∙◌, inl, inr, ⊎_elim, arith}
 use Rattle.std.proofs.lemmas.List.{append-nil, length-append, length-drop, drop_all}
 use Rattle.std.proofs.lemmas.Bool.{lt-ltb, le-ltb, ltb-true, ltb-false, cases_Bool}
 use Rattle.layout.specs.declared.faults.FileFault.{FileFault}
@@ -79,8 +79,34 @@ module _ (file : List ℕ) (b : Bytes file) where
       absurd (omega arith))
       (cases_Bool (ltb q (length file)))
 
+-- ---- one of the two, and only one
+
+module _ (file : List ℕ) (ok : (p : Description) → (file_read file ≡ Ok p) ↔ Writes file p) (err : (f : FileFault) → (file_read file ≡ Err f) ↔ FirstFault file f) where
+  either : (r : Result Description FileFault) → file_read file ≡ r → ((p : Description) × Writes file p) ⊎ ((f : FileFault) × FirstFault file f)
+  either (Ok p) e = inl (p, (ok p).0 e)
+  either (Err f) e = inr (f, (err f).0 e)
+
+  apart : (p : Description) (f : FileFault) → Writes file p → FirstFault file f → ⊥
+  apart p f w h =
+      let k : Ok p ≡ Err f = sym ((ok p).1 w) ∙ (err f).1 h in
+      let z : ◌≡◌ {A = ℕ} 0 1 = cc in
+      absurd (omega arith)
+
+  same_description : (p q : Description) → Writes file p → Writes file q → p ≡ q
+  same_description p q w h = let k : ◌≡◌ {A = Result Description FileFault} (Ok p) (Ok q) = sym ((ok p).1 w) ∙ (ok q).1 h in cc
+
+  same_fault : (f g : FileFault) → FirstFault file f → FirstFault file g → f ≡ g
+  same_fault f g w h = let k : ◌≡◌ {A = Result Description FileFault} (Err f) (Err g) = sym ((err f).1 w) ∙ (err g).1 h in cc
+
 pub reads_what_is_written : (file : List ℕ) → Bytes file → ReadsWhatIsWritten file
-reads_what_is_written file b = record {
-  accepted = λ p. (accepted_by file b (reads file_of file 0) refl p, accepts file p);
-  refused = λ f. (refused_by file b (reads file_of file 0) refl f, refuses file f);
-}
+reads_what_is_written file b =
+    let ok : (p : Description) → (file_read file ≡ Ok p) ↔ Writes file p = λ p. (accepted_by file b (reads file_of file 0) refl p, accepts file p) in
+    let err : (f : FileFault) → (file_read file ≡ Err f) ↔ FirstFault file f = λ f. (refused_by file b (reads file_of file 0) refl f, refuses file f) in
+    record {
+      accepted = ok;
+      refused = err;
+      one = either file ok err (file_read file) refl;
+      not_both = apart file ok err;
+      one_description = same_description file ok err;
+      one_fault = same_fault file ok err;
+    }
