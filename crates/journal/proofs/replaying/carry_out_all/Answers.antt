@@ -1,5 +1,4 @@
-use Rattle.std.proofs.Common.{◌≡◌, [], ◌∷◌, deque_len, sym, refl, ap, ◌∙◌, append_assoc, append-nil, arith, rules}
-use Rattle.std.specs.Vec.Iter.{into_iter_items}
+use Rattle.std.proofs.Common.{◌≡◌, [], ◌∷◌, deque_len, refl, ap, ◌∙◌, append_assoc, arith, rules}
 use Rattle.std.proofs.lemmas.List.{nil_from_length, map-append}
 use Rattle.journal.proofs.Histories.{replay_none, replay_more}
 use Rattle.journal.proofs.Standing.{leaves_more}
@@ -30,11 +29,3 @@ loop-call-preserved g c =
       stand = rw c.push_reserved.ensures.items (leaves_more _ _ at.yielded _ _ _ call c.carry_out.result _ _ at.invariant.stand c.carry_out.ensures.networks);
       room = omega (arith, at.invariant.room, steps.1, c.push_reserved.ensures.len, c.push_reserved.ensures.capacity);
     }
-
-pub returns : goal.returns
-returns g c =
-    let at = c.loop-call in
-    let gone = c.in-None.ensures.steps in
-    let empty : into_iter_items at.call-iterator ≡ [] = nil_from_length _ (search rules) in
-    let all = sym (append-nil at.yielded) ∙ rw empty at at.invariant.in_order ∙ c.into_iter-call-iterator.ensures.into_iter_gives.1 in
-    record { networks = rw all at at.invariant.stand; runs = rw all at at.invariant.carried }
