@@ -1,5 +1,5 @@
 -- Half a round, as the code makes it. Assumes nothing.
-use Rattle.std.specs.Prelude.{◌≡◌, Bool, List, length, ℤ, Ok, Err, Result, ◌≢◌}
+use Rattle.std.specs.Prelude.{◌≡◌, Bool, false, List, length, ℤ, Ok, Err, Result, ◌≢◌}
 use Rattle.scale.specs.declared.scale.Scale.{Ghosts as ScaleGhosts}
 use Rattle.network.specs.declared.network.Network.{Ghosts as NetworkGhosts}
 use Rattle.network.specs.declared.refusal.Refusal.{Refusal}
@@ -13,14 +13,15 @@ hall {n = n} h = record { network = n.meaning h.network; table = h.benches }
 
 -- the latest starts of b at the arrivals of a with the starts x, unless a length is wrong
 abbrev pub LimitedBy : {U : Type 0} → Meaning → List ℤ → Meaning → List ℤ → List ℤ → Result U Refusal → Type 0
-LimitedBy a x b before after (Ok u) = after ≡ b.latest (a.arrivals x)
+LimitedBy a x b before after (Ok u) = (a.stations ≡ b.stations) × (after ≡ b.latest (a.arrivals x))
 LimitedBy a x b before after (Err e) = length x ≡ a.benches → a.stations ≡ b.stations → length before ≢ b.benches
 
 -- the same of the starts of a hall, which has as many as its network has benches
 abbrev pub Limited : {U : Type 0} → TheHall → Meaning → List ℤ → List ℤ → Result U Refusal → Type 0
-Limited a b before after (Ok u) = after ≡ b.latest (a.network.arrivals (starts a.table))
+Limited a b before after (Ok u) = (a.network.stations ≡ b.stations) × (after ≡ b.latest (a.network.arrivals (starts a.table)))
 Limited a b before after (Err e) = a.network.stations ≡ b.stations → length before ≢ b.benches
 
--- where the stations agree, the hall is cut by the arrivals of the other; `rests` says whether no start changed
-abbrev pub CutBy : TheHall → TheHall → TheHall → Bool → Type 0
-CutBy other before after rests = other.network.stations ≡ before.network.stations → (after ≡ cut_by before other) × (rests ≡ unmoved before after)
+-- where the stations agree, the hall is cut by the arrivals of the other, and `rests` says whether no start changed; else it stays
+pub record CutBy (other before after : TheHall) (rests : Bool) : Type 0 where
+  pub agree : other.network.stations ≡ before.network.stations → (after ≡ cut_by before other) × (rests ≡ unmoved before after)
+  pub differ : other.network.stations ≢ before.network.stations → (after ≡ before) × (rests ≡ false)

@@ -11,8 +11,8 @@ pub round_made : (l r l' r' : Hall) (t t' : State) (lr rr lf rf : Bool) → l.ne
     plan l' r' t' ≡ round (plan l r t)
 unfolding round
 round_made l r l' r' t t' lr rr lf rf level first second lfell rfell v =
-    let one = first level in
-    let two = second (ap (λ (z : Hall). z.network.stations) one.0 ∙ sym level) in
+    let one = first.agree level in
+    let two = second.agree (ap (λ (z : Hall). z.network.stations) one.0 ∙ sym level) in
     let now : t' ≡ verdict (fallen l'.table || fallen r'.table) (unmoved l l' && unmoved r r') =
     v ∙ ap₂ verdict (ap₂ ◌||◌ lfell rfell) (ap₂ ◌&&◌ two.1 one.1) in
     ap (plan l' r') now
