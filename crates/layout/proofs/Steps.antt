@@ -1,5 +1,5 @@
 -- Calls that read layouts one after another. Assumes nothing.
-use Rattle.std.proofs.Common.{◌≡◌, ℕ, List, IsErrAnd, Ok, Err, Result, sym, refl, ap, ◌∙◌}
+use Rattle.std.proofs.Common.{◌≡◌, ℕ, List, IsErrAnd, Ok, Err, Result, sym, refl, ap, ◌∙◌, arith}
 use Rattle.std.specs.Result.{result_map_both}
 use Rattle.network.specs.declared.refusal.Refusal.TheVariants.{Ends}
 use Rattle.layout.specs.declared.cursor.Cursor.{Cursor}
@@ -107,3 +107,8 @@ pub told_outcome : {F G A X : Type 0} (g : F → G) (l : Layout F A) (file : Lis
     outcome view r q ≡ reads l file p → r' ≡ result_map_both (λ (x : X). x) g r → outcome view r' q ≡ reads (told g l) file p
 told_outcome g l file p q view r r' h e =
     ap (λ z. outcome view z q) e ∙ retold_outcome g view r q ∙ ap (retold g) h ∙ sym (reads_told g l file p)
+
+-- an answer that is no fault was none below
+pub kept : {F G X : Type 0} (g : F → G) (r : Result X F) (x : X) → Ok x ≡ result_map_both (λ (y : X). y) g r → r ≡ Ok x
+kept g (Ok y) x e = ap Ok (cc)
+kept g (Err f) x e = let z : ◌≡◌ {A = ℕ} 0 1 = cc in absurd (omega arith)

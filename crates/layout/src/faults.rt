@@ -17,11 +17,11 @@ pub struct LineFault {
     pub byte: usize,
 }
 
-// The same in a part of the file.
-#[derive(Clone, Copy, Debug, PartialEq, Eq)]
-pub struct FileFault {
+// The same in a part of the file: a part of a plan file, or whatever tells the parts of another one.
+#[derive(Clone, Copy, Debug, PartialEq, Eq, Drop)]
+pub struct FileFault<P = Part> {
     pub refusal: Refusal,
-    pub part: Part,
+    pub part: P,
     pub line: usize,
     pub byte: usize,
 }

@@ -14,3 +14,4 @@ pub use cursor::Cursor;
 pub use faults::{ByteFault, FileFault, LineFault};
 pub use numbers::read_number;
 pub use part::Part;
+pub use places::{in_part, on_line};

@@ -2,7 +2,7 @@
 use Rattle.std.proofs.Common.{◌≡◌, ℕ, List, length, Ok, Err, Result, subst, sym, ◌∙◌}
 use Rattle.std.specs.Result.{result_map_both}
 use Rattle.scale.specs.Algebra.{Algebra}
-use Rattle.layout.specs.declared.faults.FileFault.{FileFault}
+use Rattle.layout.specs.Faults.{FileFault}
 use Rattle.layout.specs.Layouts.{reads}
 use Rattle.layout.specs.Writing.{Bytes}
 use Rattle.planfile.specs.declared.heads.Head.{Head}

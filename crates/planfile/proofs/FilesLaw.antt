@@ -2,7 +2,7 @@
 use Rattle.std.proofs.Common.{◌≡◌, ℕ, ◌<◌, true, false, cond, ltb, List, [], ◌++◌, length, drop, Ok, Err, Result, ◌↔◌, ◌⊎◌, sym, refl, ap, ◌∙◌, inl, inr, ⊎_elim, arith}
 use Rattle.std.proofs.lemmas.List.{append-nil, length-append, length-drop, drop_all}
 use Rattle.std.proofs.lemmas.Bool.{lt-ltb, le-ltb, ltb-true, ltb-false, cases_Bool}
-use Rattle.layout.specs.declared.faults.FileFault.{FileFault}
+use Rattle.layout.specs.Faults.{FileFault}
 use Rattle.layout.specs.Layouts.{Outcome, reached, refused, reads}
 use Rattle.layout.specs.Writing.{Bytes}
 use Rattle.layout.proofs.Written.{reads_written, lays_read, finds_first, breaks_read}

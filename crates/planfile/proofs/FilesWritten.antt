@@ -4,11 +4,10 @@ use Rattle.std.proofs.lemmas.List.{append-nil}
 use Rattle.std.proofs.lemmas.Int.{ints}
 use Rattle.network.specs.Networks.{Size}
 use Rattle.layout.specs.declared.bounds.Bounds.{Bounds}
-use Rattle.layout.specs.declared.faults.FileFault.{FileFault}
 use Rattle.layout.specs.declared.faults.LineFault.{LineFault}
 use Rattle.layout.specs.declared.part.Part.{Part}
 use Rattle.layout.specs.declared.part.Part.TheVariants.{Head as HeadPart, LeftNetwork, RightNetwork, LeftWindows, RightWindows}
-use Rattle.layout.specs.Faults.{on_line, in_part}
+use Rattle.layout.specs.Faults.{FileFault, on_line, in_part}
 use Rattle.layout.specs.Layouts.{Layout, gives, then, told}
 use Rattle.layout.specs.Writing.{Lays, no_field}
 use Rattle.layout.proofs.Laid.{gives_laid, then_lays, then_laid, told_lays, told_laid}

@@ -1,6 +1,6 @@
 -- The head, and then the body. Assumes nothing.
 use Rattle.std.proofs.Common.{◌≡◌, ℕ, List, length, Ok, Err, ap, ◌∙◌}
-use Rattle.layout.specs.declared.faults.FileFault.{FileFault}
+use Rattle.layout.specs.Faults.{FileFault}
 use Rattle.layout.specs.Layouts.{reads}
 use Rattle.layout.specs.Reading.{outcome}
 use Rattle.layout.proofs.Outcomes.{goes_on, stops}

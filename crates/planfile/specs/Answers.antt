@@ -3,7 +3,7 @@ use Rattle.std.specs.Prelude.{◌≡◌, ℕ, List, length, Ok, Err, Result}
 use Rattle.scale.specs.Algebra.{Algebra}
 use Rattle.scale.specs.Minutes.{minutes}
 use Rattle.scale.specs.Grades.{grades}
-use Rattle.layout.specs.declared.faults.FileFault.{FileFault}
+use Rattle.layout.specs.Faults.{FileFault}
 use Rattle.layout.specs.Layouts.{reads}
 use Rattle.planfile.specs.declared.heads.Head.{Head}
 use Rattle.planfile.specs.declared.heads.ScaleKind.TheVariants.{Minutes, Grades}

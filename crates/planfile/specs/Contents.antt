@@ -1,6 +1,6 @@
 -- What reading a plan file hands over. Assumes nothing.
 use Rattle.std.specs.Prelude.{ℕ, if◌then◌else◌, Ok, Err, Result, nat_lt}
-use Rattle.layout.specs.declared.faults.FileFault.{FileFault}
+use Rattle.layout.specs.Faults.{FileFault}
 use Rattle.planfile.specs.declared.lists.Lists.{Lists}
 use Rattle.planfile.specs.Files.{Description, extra}
 use Rattle.planfile.specs.Handed.{windows_in}

@@ -3,7 +3,7 @@ use Rattle.std.specs.Prelude.{◌≡◌, ℕ, ◌+◌, ◌-◌, ◌*◌, ◌^◌
 use Rattle.std.specs.Option.{unwrap_or}
 use Rattle.network.specs.Networks.{Size}
 use Rattle.layout.specs.declared.bounds.Bounds.{Bounds}
-use Rattle.layout.specs.declared.faults.FileFault.{FileFault}
+use Rattle.layout.specs.Faults.{FileFault}
 use Rattle.layout.specs.Writing.{bytes_of, Breaks}
 use Rattle.model.specs.declared.bench.Window.{Window}
 use Rattle.planfile.specs.declared.heads.ScaleKind.{ScaleKind}

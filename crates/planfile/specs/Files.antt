@@ -5,9 +5,8 @@ use Rattle.scale.specs.Minutes.{minutes}
 use Rattle.scale.specs.Grades.{grades}
 use Rattle.network.specs.declared.refusal.Refusal.TheVariants.{Extra}
 use Rattle.layout.specs.declared.bounds.Bounds.{Bounds}
-use Rattle.layout.specs.declared.faults.FileFault.{FileFault}
 use Rattle.layout.specs.declared.part.Part.TheVariants.{LeftNetwork, RightNetwork, LeftWindows, RightWindows, Extra as ExtraPart}
-use Rattle.layout.specs.Faults.{in_part}
+use Rattle.layout.specs.Faults.{FileFault, in_part}
 use Rattle.layout.specs.Layouts.{Layout, gives, then, told, Outcome, reached, refused, reads}
 use Rattle.model.specs.declared.bench.Window.{Window}
 use Rattle.planfile.specs.declared.heads.Head.{Head}

@@ -3,9 +3,8 @@ use Rattle.std.specs.Prelude.{ℕ, Bool, cond, ◌&&◌, ◌==◌, nat_le}
 use Rattle.network.specs.declared.refusal.Refusal.TheVariants.{Edition, UnknownScale, Size as WrongSize}
 use Rattle.layout.specs.declared.faults.ByteFault.{ByteFault}
 use Rattle.layout.specs.Layouts.{Layout, gives, then, told, checked}
-use Rattle.layout.specs.declared.faults.FileFault.{FileFault}
 use Rattle.layout.specs.declared.part.Part.TheVariants.{Head as HeadPart}
-use Rattle.layout.specs.Faults.{on_line, in_part}
+use Rattle.layout.specs.Faults.{FileFault, on_line, in_part}
 use Rattle.planfile.specs.declared.heads.Head.{Head}
 use Rattle.planfile.specs.declared.heads.ScaleKind.{ScaleKind}
 use Rattle.planfile.specs.declared.heads.ScaleKind.TheVariants.{Minutes, Grades}

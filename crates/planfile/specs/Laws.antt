@@ -1,6 +1,6 @@
 -- What is promised of reading plan files. Assumes nothing.
 use Rattle.std.specs.Prelude.{◌≡◌, ℕ, ◌↔◌, ◌⊎◌, List, Ok, Err}
-use Rattle.layout.specs.declared.faults.FileFault.{FileFault}
+use Rattle.layout.specs.Faults.{FileFault}
 use Rattle.layout.specs.Writing.{Bytes}
 use Rattle.planfile.specs.Files.{Description, file_read}
 use Rattle.planfile.specs.Documents.{Writes, FirstFault}

@@ -1,8 +1,7 @@
 -- Rows that are asked for, in the file's order. Assumes nothing.
 use Rattle.std.specs.Prelude.{◌≡◌, ℕ, ◌+◌, ◌-◌, ◌*◌, if◌then◌else◌, List, take, drop, Some, None, Ok, Err, Option, Result, count_ones, nat_lt}
-use Rattle.layout.specs.declared.faults.FileFault.{FileFault}
 use Rattle.layout.specs.declared.part.Part.TheVariants.{LeftNetwork, RightNetwork}
-use Rattle.layout.specs.Faults.{on_line, in_part}
+use Rattle.layout.specs.Faults.{FileFault, on_line, in_part}
 use Rattle.layout.specs.Layouts.{reached, refused, reads, told}
 use Rattle.planfile.specs.declared.heads.Head.{Head}
 use Rattle.planfile.specs.declared.heads.SoundHead.{SoundHead}

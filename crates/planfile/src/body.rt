@@ -11,7 +11,7 @@ use crate::heads::SoundHead;
 use crate::lists::Lists;
 use crate::parts::{read_rows, read_windows};
 use crate::ranges::Ranges;
-use layout::{Cursor, FileFault, Part};
+use layout::{Cursor, FileFault, Part, in_part};
 use network::Refusal;
 
 // The lists of a file with this head, from the cursor on, or its first fault.
@@ -33,18 +33,22 @@ fn read_lists(cursor: &mut Cursor, head: SoundHead, ranges: Ranges) -> Result<Li
     ensures reads { Reads (body_of ranges.coefficients ranges.windows (plain head)) cursor.old cursor.new said result }
     ensures head { IfOk result (λ x. x.head ≡ head) }
 {
-    let left = read_rows(cursor, head.stations, head.left, ranges.coefficients).map_err(
-        |f| f.in_part(Part::LeftNetwork),
+    let left = in_part(
+        read_rows(cursor, head.stations, head.left, ranges.coefficients),
+        Part::LeftNetwork,
     )?;
-    let right = read_rows(cursor, head.stations, head.right, ranges.coefficients).map_err(
-        |f| f.in_part(Part::RightNetwork),
+    let right = in_part(
+        read_rows(cursor, head.stations, head.right, ranges.coefficients),
+        Part::RightNetwork,
     )?;
-    let lefts = read_windows(cursor, head.left, ranges.windows).map_err(|f| f.in_part(
+    let lefts = in_part(
+        read_windows(cursor, head.left, ranges.windows),
         Part::LeftWindows,
-    ))?;
-    let rights = read_windows(cursor, head.right, ranges.windows).map_err(|f| f.in_part(
+    )?;
+    let rights = in_part(
+        read_windows(cursor, head.right, ranges.windows),
         Part::RightWindows,
-    ))?;
+    )?;
     Ok(Lists {
         head,
         left,

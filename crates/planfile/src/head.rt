@@ -8,7 +8,7 @@ ghost use Rattle.planfile.specs.Sound.{plain};
 
 use crate::heads::{Head, ScaleKind, SoundHead};
 use crate::sizes::Count;
-use layout::{ByteFault, FileFault, Part};
+use layout::{ByteFault, FileFault, Part, in_part, on_line};
 use network::Refusal;
 
 impl From<SoundHead> for Head {
@@ -30,7 +30,7 @@ pub(crate) fn read_head_part(file: &[u8]) -> Result<SoundHead, FileFault>
     ensures whole { OnOk result (5 ≤ length file.now) }
     ensures accepted { IfOk result (λ h. reads head_of file.now 0 ≡ reached (plain h) 5) }
 {
-    read_head(file).map_err(|f| f.on_line(0).in_part(Part::Head))
+    in_part(on_line(read_head(file), 0), Part::Head)
 }
 
 // The head of a file, whose bytes are checked in their order.

@@ -2,7 +2,7 @@ use Rattle.std.proofs.Common.{◌≡◌, Err, Result, sym, ap, ◌∙◌, subst,
 use Rattle.std.proofs.lemmas.Result.{err_from_is_err_and}
 use Rattle.scale.specs.Minutes.{minutes}
 use Rattle.scale.specs.Grades.{grades}
-use Rattle.layout.specs.declared.faults.FileFault.{FileFault}
+use Rattle.layout.specs.Faults.{FileFault}
 use Rattle.planfile.specs.declared.heads.Head.{Head}
 use Rattle.planfile.specs.declared.heads.ScaleKind.TheVariants.{Minutes, Grades}
 use Rattle.planfile.specs.declared.plans.PlanFile.{PlanFile}

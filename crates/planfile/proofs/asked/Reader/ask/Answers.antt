@@ -1,13 +1,12 @@
 use Rattle.std.proofs.Common.{◌≡◌, ℕ, ◌+◌, take, drop, Ok, Err, Option, Result, sym, refl, ap, ◌∙◌, subst, arith, rules}
 use Rattle.std.specs.Result.{result_map_both}
 use Rattle.std.proofs.lemmas.Result.{err_from_is_err_and}
-use Rattle.layout.specs.declared.faults.FileFault.{FileFault}
 use Rattle.layout.specs.declared.cursor.Cursor.{Cursor}
 use Rattle.layout.specs.declared.faults.ByteFault.{ByteFault}
 use Rattle.layout.specs.Layouts.{reached, reads}
 use Rattle.layout.specs.Reading.{outcome, Reads}
 use Rattle.planfile.specs.Asks.{asked_row}
-use Rattle.layout.specs.Faults.{on_line, in_part}
+use Rattle.layout.specs.Faults.{FileFault, on_line, in_part}
 use Rattle.layout.proofs.Steps.{told_reads}
 use Rattle.planfile.specs.declared.asked.Row.{Row}
 use Rattle.planfile.specs.Rowing.{Asked}
