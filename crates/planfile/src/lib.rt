@@ -9,6 +9,7 @@ mod files;
 mod head;
 mod heads;
 mod laws;
+mod listed;
 mod lists;
 mod maps;
 mod parts;

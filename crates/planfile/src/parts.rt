@@ -41,11 +41,11 @@ pub(crate) fn read_windows(
 ) -> Result<Windows, LineFault>
     ensures { Reads (windows_of bounds benches.number 0 []) cursor.old cursor.new windows_in result }
 {
-    let mut list = ArrayVec::new();
+    let mut windows = Windows::new();
     // as above
     for i in 0..benches.number {
         let w = on_line(read_window(cursor, bounds), i)?;
-        list.push(w);
+        windows.push(w);
     }
-    Ok(Windows { list })
+    Ok(windows)
 }

@@ -1,9 +1,13 @@
 // A list of windows.
-use arrayvec::ArrayVec;
+ghost use Rattle.std.specs.Prelude.{◌≡◌, ◌≤◌, length};
+
 use model::Window;
 
-// The windows of a side, bench 0 first.
-#[derive(Clone, Debug, PartialEq, Eq, Drop)]
+// The windows of a side, bench 0 first: the first `count` of 32 places.
+#[derive(Clone, Copy)]
 pub struct Windows {
-    pub(crate) list: ArrayVec<Window, 32>,
+    pub(crate) list: [Window; 32],
+    pub(crate) count: usize,
+    ghost few: { count ≤ 32 },
+    ghost full: { length list ≡ 32 },
 }

@@ -2,23 +2,13 @@
 ghost use Rattle.std.specs.Prelude.{◌≡◌, ◌*◌, length};
 ghost use Rattle.table.specs.Cells.{Holds};
 ghost use Rattle.planfile.specs.Contents.{said};
-ghost use Rattle.planfile.specs.Handed.{windows_in, Carries};
+ghost use Rattle.planfile.specs.Handed.{Carries};
 
 use crate::contents::Contents;
 use crate::lists::Lists;
 use crate::sizes::Count;
-use crate::spans::Windows;
-use model::Window;
 use scale::Scale;
 use table::Table;
-
-impl Windows {
-    pub fn as_slice(&self) -> &[Window]
-        ensures { result.now ≡ windows_in self.now }
-    {
-        self.list.as_slice()
-    }
-}
 
 // What the lists of a file say, as tables and windows.
 pub(crate) fn contents<S: Scale>(lists: Lists) -> Contents<S>

@@ -1,4 +1,5 @@
-use Rattle.std.proofs.Common.{◌≡◌, ◌+◌, ◌-◌, ◌<◌, sym, refl, ap, arith, rules}
+use Rattle.std.proofs.Common.{◌≡◌, ◌+◌, ◌-◌, ◌<◌, [], ◌∷◌, length, sym, refl, ap, ◌∙◌, arith, rules}
+use Rattle.std.proofs.lemmas.List.{length-append}
 use Rattle.layout.specs.Faults.{on_line}
 use Rattle.layout.proofs.Steps.{left_as, left_fault, left_more, read_all, told_reads}
 use Rattle.planfile.specs.Parts.{windows_of}
@@ -22,8 +23,8 @@ loop-i-preserved c =
     let next = left_as (windows_next b (n - i) (n - (i + 1)) i (i + 1) _ (omega arith) (omega arith)) c.loop-i.invariant.left in
     let more = left_more _ c.in_ok-w.w next (told_reads (on_line i) c.read_window.ensures (search rules)) in
     record {
-      full = omega arith;
-      left = left_as (ap (windows_of b (n - (i + 1)) (i + 1)) (sym c.push.ensures.items)) more;
+      full = ap length c.push.ensures ∙ length-append _ (c.in_ok-w.w ∷ []) ∙ omega (arith, c.loop-i.invariant.full);
+      left = left_as (ap (windows_of b (n - (i + 1)) (i + 1)) (sym c.push.ensures)) more;
     }
 
 pub returns : goal.returns
