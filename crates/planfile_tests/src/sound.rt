@@ -45,6 +45,21 @@ fn the_worked_file(rt: HostRuntime) -> Result<(), Fail> {
 }
 
 #[test]
+fn the_windows_of_a_side(rt: HostRuntime) -> Result<(), Fail> {
+    let plan = minutes(&FILE)?;
+    let lefts = plan.lefts;
+    let rights = plan.rights;
+    assert_eq!(rt; lefts, plan.lefts);
+    assert_ne!(rt; lefts, rights);
+    let text = format!(in rt.alloc(); "{rights:?}")?;
+    assert_eq!(rt;
+        text.as_str(),
+        "Windows { list: [Window { floor: 0, ceiling: 100 }] }"
+    );
+    Ok(())
+}
+
+#[test]
 fn limits_of_minutes(rt: HostRuntime) -> Result<(), Fail> {
     assert_eq!(rt;
         minutes(&with_number(9, 1_000_000))?.left.cell(0, 0),
