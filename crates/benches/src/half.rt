@@ -57,6 +57,7 @@ impl Benches {
         ensures count { length self.new ≡ length self.old }
         ensures rests { result ≡ same_list (starts self.old) (starts self.new) }
     {
-        cut_rows(self.rows.as_mut_slice(), limits)
+        let count = self.count;
+        cut_rows(&mut self.rows[..count], limits)
     }
 }
