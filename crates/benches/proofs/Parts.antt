@@ -1,8 +1,8 @@
 -- The first records of a table of 32. Assumes nothing.
-use Rattle.std.proofs.Common.{◌≡◌, ℕ, ◌<◌, ◌≤◌, min, List, ◌++◌, length, take, drop, set, replicate, sym, ap, ◌∙◌, ⊎_elim, arith, length-append, length-drop}
+use Rattle.std.proofs.Common.{◌≡◌, ℕ, ◌≤◌, min, List, ◌++◌, length, take, drop, replicate, sym, ap, ◌∙◌, ⊎_elim, arith, length-append, length-drop}
 use borrow.Rule.Slice.PartMut.{post_of}
 use Rattle.std.proofs.Math.Seq.{take-append_seam}
-use Rattle.std.proofs.lemmas.List.{take_all, length-set, drop-set-lt, drop-replicate, length-replicate}
+use Rattle.std.proofs.lemmas.List.{take_all, drop-replicate, length-replicate}
 use Rattle.std.proofs.lemmas.Slice.{drop-append-drop}
 use Rattle.std.proofs.lemmas.Bool.{cases_lt}
 use Rattle.model.specs.declared.bench.Bench.{Bench}
@@ -39,11 +39,3 @@ room_written n rows xs h e =
       full = length-append xs (drop n rows) ∙ omega (arith, l, past, h.few, h.full);
       spare = drop-append-drop n rows xs n (omega arith) l ∙ h.spare;
     }
-
--- after a write to a row below n
-pub room_set : (n i : ℕ) (rows : List Bench) (row : Bench) → Room n rows → i < n → Room n (set rows i row)
-room_set n i rows row h l = record {
-  few = h.few;
-  full = length-set rows i row ∙ h.full;
-  spare = drop-set-lt n rows i row l ∙ h.spare;
-}

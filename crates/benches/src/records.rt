@@ -6,7 +6,7 @@ ghost use Rattle.model.specs.Calls.{adopt_bench};
 ghost use Rattle.benches.specs.Records.{renew_bench, Got};
 ghost use Rattle.benches.specs.Answers.{StartsWritten};
 
-use crate::rows::{rewrite, sum_room, write_fresh, write_starts};
+use crate::rows::{put_row, rewrite, sum_room, write_fresh, write_starts};
 use crate::table::Benches;
 use model::{Bench, Window};
 use network::Refusal;
@@ -31,9 +31,8 @@ impl Benches {
     pub fn put(&mut self, bench: usize, row: Bench)
         ensures { self.new ≡ slice_set self.old bench row }
     {
-        if bench < self.count {
-            self.rows[bench] = row;
-        }
+        let count = self.count;
+        put_row(&mut self.rows[..count], bench, row);
     }
 
     // Writes the starts, or 12.

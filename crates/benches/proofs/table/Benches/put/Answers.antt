@@ -1,13 +1,18 @@
-use Rattle.std.proofs.Common.{List, set, ap, ◌∙◌}
+use Rattle.std.proofs.Common.{◌≡◌, List, length, take, set, ap, ◌∙◌, rules}
 use Rattle.model.specs.declared.bench.Bench.{Bench}
-use Rattle.std.proofs.Math.Seq.{take-set-lt}
-use Rattle.benches.proofs.Parts.{room_set}
+use Rattle.benches.specs.Rooms.{count_back}
+use Rattle.benches.proofs.Parts.{part_written, room_written}
 use Rattle.benches.proofs.table.Benches.put.Goals as goal
 
 pub invariant_of-self : goal.invariant_of-self
-invariant_of-self c = room_set c.self.inside.count c.args.bench c.self.inside.rows c.args.row c.self.invariant c.if-bench-self.true
+invariant_of-self c =
+    let same : length c.put_row.new.rows ≡ length (take c.self.inside.count c.self.inside.rows) = search rules in
+    room_written c.self.inside.count c.self.inside.rows c.put_row.new.rows c.self.invariant same
 
-pub returns-then-bench-self : goal.returns-then-bench-self
-returns-then-bench-self c =
-    take-set-lt c.self.inside.count c.self.inside.rows c.args.bench c.args.row c.if-bench-self.true
+pub returns : goal.returns
+returns c =
+    let n = c.self.inside.count in
+    let rows = c.self.inside.rows in
+    let same : length c.put_row.new.rows ≡ length (take n rows) = search rules in
+    part_written n n c.put_row.new.rows rows (same ∙ count_back n rows c.self.invariant) ∙ c.put_row.ensures
     ∙ ap (λ (z : List Bench). set z c.args.bench c.args.row) c.self.view_is
