@@ -1,10 +1,10 @@
 -- A list that is rewritten in place, and a sum, turn by turn. Assumes nothing.
-use Rattle.std.proofs.Common.{◌≡◌, ℕ, ◌+◌, ◌<◌, ◌≤◌, List, [], ◌∷◌, ◌++◌, map, length, get_or, take, drop, set, ℤ, pos, ◌+ℤ◌, ◌-ℤ◌, sym, refl, ap, subst, ◌∙◌, ap₂, arith}
+use Rattle.std.proofs.Common.{◌≡◌, ℕ, ◌+◌, ◌<◌, ◌≤◌, List, [], ◌∷◌, map, length, get_or, take, drop, set, ℤ, pos, ◌+ℤ◌, ◌-ℤ◌, sym, refl, ap, subst, ◌∙◌, ap₂, arith}
 use Rattle.std.proofs.lemmas.Int.{ints}
-use Rattle.std.proofs.lemmas.List.{append-nil, take_all, drop_all, at_drop_more, at_drop_all}
+use Rattle.std.proofs.lemmas.List.{at_drop_more, at_drop_all}
 use native.Mathlib.Numerals.{unary_clauses}
-use Rattle.std.specs.List.{AllZip, refill}
-use Rattle.std.proofs.lemmas.List.{length-set, drop-set-lt, take_more_set, get_or-drop, get_or_default, length-map}
+use Rattle.std.specs.List.{AllZip}
+use Rattle.std.proofs.lemmas.List.{length-set, drop-set-lt, take_more_set, get_or-drop, get_or_default}
 use Rattle.std.proofs.lemmas.Grind.{drop_more_same}
 use Rattle.std.proofs.lemmas.List.Elements.{all_zip_more}
 use Rattle.model.specs.declared.bench.Bench.{Bench}
@@ -26,19 +26,11 @@ rewrite_more {A} R xs ys i d y h e same inv r =
     )
 
 -- the whole list, where each element became what f makes of it
-made : {A : Type 0} (R : A → A → Type 0) (f : A → A) → ((x y : A) → R x y → y ≡ f x) → (xs ys : List A) → AllZip R xs ys → ys ≡ map f xs
+pub made : {A : Type 0} (R : A → A → Type 0) (f : A → A) → ((x y : A) → R x y → y ≡ f x) → (xs ys : List A) → AllZip R xs ys → ys ≡ map f xs
 made R f h [] [] z = refl
 made R f h [] (y ∷ ys) z = absurd z
 made R f h (x ∷ xs) [] z = absurd z
 made R f h (x ∷ xs) (y ∷ ys) z = ap₂ ◌∷◌ (h x y z.0) (made R f h xs ys z.1)
-
-pub rewritten : {A : Type 0} (R : A → A → Type 0) (f : A → A) → ((x y : A) → R x y → y ≡ f x) → (rows xs ys : List A) → xs ≡ rows → AllZip R xs ys →
-    refill (length rows) rows ys ≡ map f rows
-rewritten {A} R f h rows xs ys e z =
-    let m : ys ≡ map f rows = made R f h xs ys z ∙ ap (map f) e in
-    let l : length ys ≡ length rows = ap (λ (zs : List A). length zs) m ∙ length-map rows f in
-    ap (λ (zs : List A). take (length rows) (ys ++ zs)) (drop_all (length ys) rows (omega (arith, l)))
-    ∙ ap (take (length rows)) (append-nil ys) ∙ take_all (length rows) ys (omega (arith, l)) ∙ m
 
 -- ---- a sum
 

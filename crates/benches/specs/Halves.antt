@@ -4,7 +4,8 @@ use Rattle.scale.specs.declared.scale.Scale.{Ghosts as ScaleGhosts}
 use Rattle.network.specs.declared.network.Network.{Ghosts as NetworkGhosts}
 use Rattle.network.specs.declared.refusal.Refusal.{Refusal}
 use Rattle.network.specs.Networks.{Meaning}
-use Rattle.model.specs.Plans.{Hall as TheHall, starts, cut_by, unmoved}
+use Rattle.model.specs.declared.bench.Bench.{Bench}
+use Rattle.model.specs.Plans.{Hall as TheHall, starts, cut, cut_by, same_list, unmoved}
 use Rattle.benches.specs.declared.hall.Hall.{Hall}
 
 -- what a hall of the code stands for: the meaning of its network, and its records
@@ -13,13 +14,15 @@ hall {n = n} h = record { network = n.meaning h.network; table = h.benches }
 
 -- the latest starts of b at the arrivals of a with the starts x, unless a length is wrong
 abbrev pub LimitedBy : {U : Type 0} → Meaning → List ℤ → Meaning → List ℤ → List ℤ → Result U Refusal → Type 0
-LimitedBy a x b before after (Ok u) = (a.stations ≡ b.stations) × (after ≡ b.latest (a.arrivals x))
+LimitedBy a x b before after (Ok u) = (length x ≡ a.benches) × (a.stations ≡ b.stations) × (length before ≡ b.benches) × (after ≡ b.latest (a.arrivals x))
 LimitedBy a x b before after (Err e) = length x ≡ a.benches → a.stations ≡ b.stations → length before ≢ b.benches
 
--- the same of the starts of a hall, which has as many as its network has benches
-abbrev pub Limited : {U : Type 0} → TheHall → Meaning → List ℤ → List ℤ → Result U Refusal → Type 0
-Limited a b before after (Ok u) = (a.network.stations ≡ b.stations) × (after ≡ b.latest (a.network.arrivals (starts a.table)))
-Limited a b before after (Err e) = a.network.stations ≡ b.stations → length before ≢ b.benches
+-- where the sizes agree, the starts of `before` are cut by the arrivals of `lead` over a, and `rests` says whether none changed;
+-- where one does not, the records stay
+pub record RecordsCut (a : Meaning) (lead : List Bench) (b : Meaning) (before after : List Bench) (rests : Bool) : Type 0 where
+  pub agree : length lead ≡ a.benches → a.stations ≡ b.stations → length before ≡ b.benches →
+      (after ≡ cut before (b.latest (a.arrivals (starts lead)))) × (rests ≡ same_list (starts before) (starts after))
+  pub differ : (length lead ≡ a.benches → a.stations ≡ b.stations → length before ≢ b.benches) → (after ≡ before) × (rests ≡ false)
 
 -- where the stations agree, the hall is cut by the arrivals of the other, and `rests` says whether no start changed; else it stays
 pub record CutBy (other before after : TheHall) (rests : Bool) : Type 0 where

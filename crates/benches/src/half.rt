@@ -1,7 +1,7 @@
 // Half a round. A network writes into a slice of an array: a vector of fixed capacity would be made of that array and cut.
 ghost use Rattle.std.specs.Prelude.{◌≡◌, length};
 ghost use Rattle.model.specs.Plans.{starts, cut, same_list};
-ghost use Rattle.benches.specs.Halves.{hall, LimitedBy, Limited, CutBy};
+ghost use Rattle.benches.specs.Halves.{hall, LimitedBy, CutBy, RecordsCut};
 
 use crate::hall::Hall;
 use crate::rows::cut_rows;
@@ -14,34 +14,54 @@ impl<N: Network> Hall<N> {
         ensures cut { CutBy (hall other.now) (hall self.old) (hall self.new) result }
         ensures network { self.new.network ≡ self.old.network }
     {
-        let mut room = [0; 32];
-        let limits = &mut room[..self.benches.count()];
-        write_limits(other, &self.network, limits).is_ok() && self.benches.cut(limits)
+        cut_by(
+            &other.network,
+            &other.benches,
+            &self.network,
+            &mut self.benches,
+        )
     }
 }
 
-// Writes the latest starts of `follower` at which it arrives no later than `leader` with its starts.
-fn write_limits<M: Network, N: Network<Over = M::Over>>(
-    leader: &Hall<M>,
-    follower: &N,
-    out: &mut [i32],
-) -> Result<(), Refusal>
-    ensures { Limited (hall leader.now) (N.Network.meaning follower.now) out.old out.new result }
+// Cuts the starts of `benches` to what the arrivals of the other side allow. Says whether none changed. The networks are only lent,
+// and where a size disagrees nothing is cut, and the answer is false.
+pub fn cut_by<A: Network, B: Network<Over = A::Over>>(
+    leader: &A,
+    lead: &Benches,
+    follower: &B,
+    benches: &mut Benches,
+) -> bool
+    ensures cut { RecordsCut (A.Network.meaning leader.now) lead.now (B.Network.meaning follower.now) benches.old benches.new result }
+    ensures count { length benches.new ≡ length benches.old }
 {
     let mut room = [0; 32];
-    let starts = &mut room[..leader.benches.count()];
-    leader.benches.starts(starts)?;
-    latest_at(&leader.network, starts, follower, out)
+    let limits = &mut room[..benches.count()];
+    write_limits(leader, lead, follower, limits).is_ok() && benches.cut(limits)
+}
+
+// Writes the latest starts of `follower` at which it arrives no later than `leader` with the starts of `lead`.
+fn write_limits<A: Network, B: Network<Over = A::Over>>(
+    leader: &A,
+    lead: &Benches,
+    follower: &B,
+    out: &mut [i32],
+) -> Result<(), Refusal>
+    ensures { LimitedBy (A.Network.meaning leader.now) (starts lead.now) (B.Network.meaning follower.now) out.old out.new result }
+{
+    let mut room = [0; 32];
+    let starts = &mut room[..lead.count()];
+    lead.starts(starts)?;
+    latest_at(leader, starts, follower, out)
 }
 
 // Writes the latest starts of `follower` at which it arrives no later than `leader` with these starts.
-fn latest_at<M: Network, N: Network<Over = M::Over>>(
-    leader: &M,
+fn latest_at<A: Network, B: Network<Over = A::Over>>(
+    leader: &A,
     starts: &[i32],
-    follower: &N,
+    follower: &B,
     out: &mut [i32],
 ) -> Result<(), Refusal>
-    ensures { LimitedBy (M.Network.meaning leader.now) starts.now (N.Network.meaning follower.now) out.old out.new result }
+    ensures { LimitedBy (A.Network.meaning leader.now) starts.now (B.Network.meaning follower.now) out.old out.new result }
 {
     let mut room = [0; 32];
     let arrivals = &mut room[..leader.stations()];
@@ -57,6 +77,7 @@ impl Benches {
         ensures count { length self.new ≡ length self.old }
         ensures rests { result ≡ same_list (starts self.old) (starts self.new) }
     {
-        cut_rows(self.rows.as_mut_slice(), limits)
+        let count = self.count;
+        cut_rows(&mut self.rows[..count], limits)
     }
 }

@@ -11,6 +11,7 @@ mod wider;
 mod windows;
 
 pub use checks::{check_ceiling, check_floor};
+pub use half::cut_by;
 pub use hall::Hall;
 pub use table::Benches;
 pub use wider::{check_wider, check_window_values};

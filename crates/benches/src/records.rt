@@ -6,9 +6,8 @@ ghost use Rattle.model.specs.Calls.{adopt_bench};
 ghost use Rattle.benches.specs.Records.{renew_bench, Got};
 ghost use Rattle.benches.specs.Answers.{StartsWritten};
 
-use crate::rows::{rewrite, sum_room, write_starts};
+use crate::rows::{put_row, rewrite, sum_room, write_fresh, write_starts};
 use crate::table::Benches;
-use arrayvec::ArrayVec;
 use model::{Bench, Window};
 use network::Refusal;
 
@@ -18,33 +17,32 @@ impl Benches {
         ensures size { result ≡ length self.now }
         ensures few { result ≤ 32 }
     {
-        self.rows.len()
+        self.count
     }
 
     // The record of a bench.
     pub fn get(&self, bench: usize) -> Option<Bench>
         ensures { Got self.now bench result }
     {
-        self.rows.get(bench).copied()
+        self.as_slice().get(bench).copied()
     }
 
     // Puts another record in the place of a bench's, where there is such a bench.
     pub fn put(&mut self, bench: usize, row: Bench)
         ensures { self.new ≡ slice_set self.old bench row }
     {
-        if let Some(place) = self.rows.get_mut(bench) {
-            *place = row;
-        }
+        let count = self.count;
+        put_row(&mut self.rows[..count], bench, row);
     }
 
     // Writes the starts, or 12.
     pub fn starts(&self, out: &mut [i32]) -> Result<(), Refusal>
         ensures { StartsWritten self.now out.old out.new result }
     {
-        if out.len() != self.rows.len() {
+        if out.len() != self.count {
             return Err(Refusal::Lengths);
         }
-        write_starts(self.rows.as_slice(), out);
+        write_starts(self.as_slice(), out);
         Ok(())
     }
 
@@ -52,7 +50,7 @@ impl Benches {
     pub fn is_fallen(&self) -> bool
         ensures { result ≡ fallen self.now }
     {
-        self.rows.iter().any(|b| b.start < b.floor)
+        self.as_slice().iter().any(|b| b.start < b.floor)
     }
 
     // The sum of start minus floor.
@@ -61,7 +59,7 @@ impl Benches {
         ensures low { neg_ℤ (pos (2 ^ 37)) ≤ℤ result }
         ensures high { result ≤ℤ pos (2 ^ 37) }
     {
-        sum_room(self.rows.as_slice())
+        sum_room(self.as_slice())
     }
 
     // Every start at its ceiling.
@@ -71,7 +69,8 @@ impl Benches {
         let renewed = |b: Bench| -> Bench
             ensures { result ≡ renew_bench b }
         { Bench::from(Window::from(b)) };
-        rewrite(self.rows.as_mut_slice(), renewed);
+        let count = self.count;
+        rewrite(&mut self.rows[..count], renewed);
     }
 
     // Every ceiling at its start.
@@ -81,7 +80,8 @@ impl Benches {
         let adopted = |b: Bench| -> Bench
             ensures { result ≡ adopt_bench b }
         { b.adopted() };
-        rewrite(self.rows.as_mut_slice(), adopted);
+        let count = self.count;
+        rewrite(&mut self.rows[..count], adopted);
     }
 
     // Benches with these windows, the first 32 of them, every start at its ceiling.
@@ -89,20 +89,20 @@ impl Benches {
         ensures { result ≡ map fresh_bench (take 32 windows.now) }
     {
         let count = windows.len().min(32);
-        Benches {
-            rows: fresh_rows(&windows[..count]),
-        }
+        let mut benches = Benches {
+            rows: [Bench::default(); 32],
+            count,
+        };
+        benches.fill(&windows[..count]);
+        benches
     }
-}
 
-// The records of these windows.
-fn fresh_rows(windows: &[Window]) -> ArrayVec<Bench, 32>
-    requires { length windows.now ≤ 32 }
-    ensures { result.items ≡ map fresh_bench windows.now }
-{
-    let mut rows = ArrayVec::new();
-    for w in windows {
-        rows.push(Bench::from(*w));
+    // Every record becomes that of its window at a fresh start.
+    fn fill(&mut self, windows: &[Window])
+        requires { length windows.now ≡ length self.old }
+        ensures { self.new ≡ map fresh_bench windows.now }
+    {
+        let count = self.count;
+        write_fresh(windows, &mut self.rows[..count]);
     }
-    rows
 }

@@ -1,10 +1,20 @@
 // Loops over bench records. An index stands where a list is written beside another: after a zip of `iter_mut` a proof knows none
 // of its values.
-ghost use Rattle.std.specs.Prelude.{◌≡◌, ◌≤◌, ◌^◌, length, pos, ◌-ℤ◌, neg_ℤ, ◌≤ℤ◌};
+ghost use Rattle.std.specs.Prelude.{◌≡◌, ◌≤◌, ◌^◌, map, length, pos, ◌-ℤ◌, neg_ℤ, ◌≤ℤ◌, slice_set};
 ghost use Rattle.std.specs.List.{AllZip};
 ghost use Rattle.model.specs.Plans.{starts, cut, spare, same_list};
+ghost use Rattle.model.specs.Sheets.{fresh_bench};
 
-use model::Bench;
+use model::{Bench, Window};
+
+// Puts another record at a place, where there is one.
+pub(crate) fn put_row(rows: &mut [Bench], bench: usize, row: Bench)
+    ensures { rows.new ≡ slice_set rows.old bench row }
+{
+    if bench < rows.len() {
+        rows[bench] = row;
+    }
+}
 
 // Each record becomes what `f` makes of it.
 pub(crate) fn rewrite<F: Fn(Bench) -> Bench>(rows: &mut [Bench], f: F)
@@ -13,6 +23,16 @@ pub(crate) fn rewrite<F: Fn(Bench) -> Bench>(rows: &mut [Bench], f: F)
 {
     for b in rows.iter_mut() {
         *b = f(*b);
+    }
+}
+
+// Writes the records of these windows.
+pub(crate) fn write_fresh(windows: &[Window], rows: &mut [Bench])
+    requires { length windows.now ≡ length rows.old }
+    ensures { rows.new ≡ map fresh_bench windows.now }
+{
+    for (i, w) in windows.iter().enumerate() {
+        rows[i] = Bench::from(*w);
     }
 }
 

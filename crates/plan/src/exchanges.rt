@@ -19,7 +19,9 @@ impl<L: Network, R: Network<Over = L::Over>> Plan<L, R> {
         ensures back { Back self.old.left.network network result }
         ensures networks { Stand (standing self.old.left.network network result) self.old.right.network self.new }
     {
-        let network = sized_as(&self.left.network, network)?;
+        if let Err(refusal) = check_same_size(&self.left.network, &network) {
+            return Err(Unexchanged { refusal, network });
+        }
         let old = std::mem::replace(&mut self.left.network, network);
         self.restart();
         Ok(old)
@@ -31,7 +33,9 @@ impl<L: Network, R: Network<Over = L::Over>> Plan<L, R> {
         ensures back { Back self.old.right.network network result }
         ensures networks { Stand self.old.left.network (standing self.old.right.network network result) self.new }
     {
-        let network = sized_as(&self.right.network, network)?;
+        if let Err(refusal) = check_same_size(&self.right.network, &network) {
+            return Err(Unexchanged { refusal, network });
+        }
         let old = std::mem::replace(&mut self.right.network, network);
         self.restart();
         Ok(old)
@@ -51,16 +55,13 @@ impl<L: Network, R: Network<Over = L::Over>> Plan<L, R> {
     }
 }
 
-// The offered network, or 12 where its stations or benches are not as many as those of the one that stands there.
-fn sized_as<M: Network, N: Network>(stands: &M, offered: N) -> Result<N, Unexchanged<N>>
-    ensures sizes { Checked (same_size_checks (M.Network.meaning stands.now) (N.Network.meaning offered)) (exchange_answer result) }
-    ensures back { Back offered offered result }
+// Whether the offered network has as many stations and benches as the one that stands there: 12. It is only lent, since a network
+// can be large, and is moved once, into the plan or back.
+fn check_same_size<M: Network, N: Network>(stands: &M, offered: &N) -> Result<(), Refusal>
+    ensures { Checked (same_size_checks (M.Network.meaning stands.now) (N.Network.meaning offered.now)) (answer result) }
 {
     if offered.stations() != stands.stations() || offered.benches() != stands.benches() {
-        return Err(Unexchanged {
-            refusal: Refusal::Lengths,
-            network: offered,
-        });
+        return Err(Refusal::Lengths);
     }
-    Ok(offered)
+    Ok(())
 }

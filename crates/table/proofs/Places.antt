@@ -1,11 +1,26 @@
--- A row of cells in the sums of a table. Assumes nothing.
-use Rattle.std.proofs.Common.{◌≡◌, ℕ, ◌+◌, ◌<◌, List, length, ℤ, Option, sym, ap, ◌∙◌}
+-- Where the rows of a table lie, and a row of cells in its sums. Assumes nothing.
+use Rattle.std.proofs.Common.{◌≡◌, ℕ, ◌+◌, ◌*◌, ◌<◌, ◌≤◌, List, length, ℤ, Option, sym, ap, ◌∙◌, arith}
 use Rattle.std.specs.Int.{int_min}
+use Rattle.std.proofs.lemmas.Nat.{mul-le, mul-add-lt}
 use Rattle.scale.specs.Algebra.{Algebra, product_of, quotient_of}
 use Rattle.network.specs.Lists.{at}
 use Rattle.table.specs.Tables.{largest, arrival, latest_start}
 use Rattle.table.specs.Cells.{asked}
 use Rattle.table.specs.Folds.{largest_same, smallest_more}
+
+-- the cells of a table of at most 32 by 32 are at most 1024
+pub few_cells : (m n : ℕ) → m ≤ 32 → n ≤ 32 → m * n ≤ 1024
+few_cells m n h l = mul-le m n 32 32 h l
+
+-- a place of a station and a bench
+pub place_within : (m n i j : ℕ) → m ≤ 32 → n ≤ 32 → i < m → j < n → i * n + j < 1024
+place_within m n i j hm hn h l = omega (arith, mul-add-lt i n j m h l, few_cells m n hm hn)
+
+-- a row that begins at a ends within the cells
+pub row_within : (m n i a : ℕ) → m ≤ 32 → n ≤ 32 → i < m → a ≡ i * n → a + n ≤ 1024
+row_within m n i a hm hn h e =
+    let w : (i + 1) * n ≤ m * n = mul-le (i + 1) n m n (omega arith) (omega arith) in
+    omega (arith, few_cells m n hm hn)
 
 -- the arrival over a row
 pub row_arrives : (s : Algebra) (n : ℕ) (row : ℕ → Option ℤ) (cells xs : List ℤ) (low r : ℤ) → s.lowest ≡ low → length cells ≡ n →

@@ -1,7 +1,8 @@
 // Making a table.
-ghost use Rattle.std.specs.Prelude.{◌≡◌, ◌≤◌, length, map};
+ghost use Rattle.std.specs.Prelude.{◌≡◌, ℕ, ◌<◌, ◌≤◌, length, None, slice_index_or};
 ghost use Rattle.scale.specs.Algebra.{counted};
 ghost use Rattle.network.specs.Checks.{Makes};
+ghost use Rattle.network.specs.Lists.{at};
 ghost use Rattle.network.specs.Refusals.{number};
 ghost use Rattle.table.specs.Cells.{asked, table_checks, Holds};
 
@@ -32,16 +33,18 @@ impl<S: Scale> Table<S> {
     }
 }
 
-// The numbers that stand for the coefficients.
+// The numbers that stand for the coefficients. They are written into an array first: a push a cell took a third longer.
 fn kept_cells<S: Scale>(cells: &[Option<i32>]) -> ArrayVec<i32, MOST>
     requires { length cells.now ≤ 1024 }
     ensures count { length result.items ≡ length cells.now }
-    ensures cells { map asked result.items ≡ map (counted S.Scale.algebra) cells.now }
+    ensures cells { (k : ℕ) → k < length cells.now → asked (at result.items k) ≡ counted S.Scale.algebra (slice_index_or cells.now k None) }
 {
-    let mut numbers = ArrayVec::new();
-    for a in cells {
-        numbers.push(kept::<S>(*a));
+    let mut all = [ABSENT; MOST];
+    for (k, a) in cells.iter().enumerate() {
+        all[k] = kept::<S>(*a);
     }
+    let mut numbers = ArrayVec::from(all);
+    numbers.truncate(cells.len());
     numbers
 }
 

@@ -1,9 +1,20 @@
-use Rattle.std.proofs.Common.{rules, ap, ◌∙◌, map}
+use Rattle.std.proofs.Common.{◌≡◌, map, length, take, ap, ◌∙◌, rules}
 use Rattle.benches.specs.Records.{renew_bench}
-use Rattle.benches.proofs.Fills.{rewritten}
+use Rattle.benches.specs.Rooms.{count_back}
+use Rattle.benches.proofs.Parts.{part_written, room_written}
+use Rattle.benches.proofs.Fills.{made}
 use Rattle.benches.proofs.table.Benches.renew.Goals as goal
+
+pub invariant_of-self : goal.invariant_of-self
+invariant_of-self c =
+    let same : length c.rewrite.new.rows ≡ length (take c.self.inside.count c.self.inside.rows) = search rules in
+    room_written c.self.inside.count c.self.inside.rows c.rewrite.new.rows c.self.invariant same
 
 pub returns : goal.returns
 returns c =
-    rewritten _ renew_bench (λ x y p. search rules) c.self.inside.rows.items _ c.rewrite.new.rows c.as_mut_slice.ensures.value c.rewrite.ensures
+    let n = c.self.inside.count in
+    let rows = c.self.inside.rows in
+    let same : length c.rewrite.new.rows ≡ length (take n rows) = search rules in
+    part_written n n c.rewrite.new.rows rows (same ∙ count_back n rows c.self.invariant)
+    ∙ made _ renew_bench (λ x y p. search rules) (take n rows) c.rewrite.new.rows c.rewrite.ensures
     ∙ ap (map renew_bench) c.self.view_is

@@ -1,6 +1,5 @@
-use Rattle.std.proofs.Common.{◌≡◌, ℕ, ◌+◌, ◌*◌, ◌<◌, length, get_or, None, ℤ, pos, Option, List, sym, ap, ◌∙◌, arith}
+use Rattle.std.proofs.Common.{◌≡◌, ℕ, ◌+◌, ◌*◌, ◌<◌, length, ℤ, Option, arith}
 use Rattle.std.proofs.lemmas.Nat.{mul-add-lt}
-use Rattle.std.proofs.lemmas.List.{get_or-map}
 use Rattle.scale.specs.Algebra.{counted}
 use Rattle.network.specs.Lists.{at}
 use Rattle.network.specs.Networks.{Size}
@@ -20,8 +19,5 @@ returns g c =
     let count : length given ≡ m * n = c.if-cells-stations.false in
     let cell : ℕ → ℕ → Option ℤ = λ i j. asked (at kept (i * n + j)) in
     let keeps : (i j : ℕ) → i < m → j < n → cell i j ≡ counted s (in_rows n given i j) = λ i j h l.
-    let k = i * n + j in
-    let q : k < length given = omega (arith, mul-add-lt i n j m h l) in
-    sym (get_or-map asked kept k (pos 0) None (rw c.kept_cells.ensures.count q)) ∙ ap (λ (xs : List (Option ℤ)). get_or xs k None) c.kept_cells.ensures.cells
-    ∙ get_or-map (counted s) given k None None q in
+    c.kept_cells.ensures.cells (i * n + j) (omega (arith, mul-add-lt i n j m h l)) in
     (((λ k. k size), ((λ k. k count), tt)), record { means = table_same s m n cell (in_rows n given) keeps; keeps = keeps })
