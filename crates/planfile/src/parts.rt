@@ -9,7 +9,7 @@ use crate::sizes::Count;
 use crate::spans::Windows;
 use crate::windows::read_window;
 use arrayvec::ArrayVec;
-use layout::{Bounds, Cursor, LineFault, on_line};
+use layout::{Bounds, Cursor, LineFault};
 
 // The most cells of a network: 32 stations and 32 benches.
 pub(crate) const MOST: usize = 1024;
@@ -27,7 +27,7 @@ pub(crate) fn read_rows(
     let mut cells = ArrayVec::new();
     // the number is the line: there is no list to go over
     for i in 0..stations.number {
-        let row = on_line(read_row(cursor, benches, bounds), i)?;
+        let row = read_row(cursor, benches, bounds).map_err(move |f| f.on_line(i))?;
         cells.try_extend_from_slice(row.as_slice()).unwrap();
     }
     Ok(cells)
@@ -44,7 +44,7 @@ pub(crate) fn read_windows(
     let mut windows = Windows::new();
     // as above
     for i in 0..benches.number {
-        let w = on_line(read_window(cursor, bounds), i)?;
+        let w = read_window(cursor, bounds).map_err(move |f| f.on_line(i))?;
         windows.push(w);
     }
     Ok(windows)
