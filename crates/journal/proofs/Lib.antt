@@ -1,3 +1,4 @@
+mod Answered
 mod Steps
 mod Histories
 mod Standing

@@ -5,6 +5,7 @@ ghost use Rattle.network.specs.Refusals.{number};
 ghost use Rattle.plan.specs.Models.{model};
 ghost use Rattle.journal.specs.Calls.{call_of, reply_of, StartsRead};
 ghost use Rattle.journal.specs.Journals.{Stepped};
+ghost use Rattle.journal.specs.Kinds.{Answers};
 ghost use Rattle.journal.specs.Networks.{Leaves};
 
 use crate::calls::Call;
@@ -18,8 +19,9 @@ pub fn carry_out<L: Network, R: Network<Over = L::Over>>(
     plan: &mut Plan<L, R>,
     call: Call<L, R>,
 ) -> Reply<L, R>
-    ensures steps { Stepped L.Over.Scale.algebra (model plan.old) (call_of L.Network.meaning R.Network.meaning call) (reply_of result) (model plan.new) }
+    ensures answers { Answers call result }
     ensures networks { Leaves plan.old.left.network plan.old.right.network call result plan.new.left.network plan.new.right.network }
+    ensures steps { Stepped L.Over.Scale.algebra (model plan.old) (call_of L.Network.meaning R.Network.meaning call) (reply_of result) (model plan.new) }
 {
     match call {
         Call::Lower { place, ceiling } => Reply::Changed(plan.lower(place, ceiling)),
