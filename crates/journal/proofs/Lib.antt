@@ -1,3 +1,5 @@
+mod Answered
+mod Fronts
 mod Steps
 mod Histories
 mod Standing

@@ -32,7 +32,7 @@ call_of a b (ReadStarts m n) = reading (the_starts m n)
 
 -- the starts that a reading tells
 abbrev pub starts_reply : Starts → TheReply
-starts_reply s = starts_are s.lefts.items s.rights.items
+starts_reply s = starts_are s.lefts s.rights
 
 -- a refusal, or what f makes of what is told
 abbrev pub told_reply : {T : Type 0} → (T → TheReply) → Result T Refusal → TheReply
@@ -53,4 +53,4 @@ reply_of (StartsAre r) = told_reply starts_reply r
 -- the starts of p, read into lists of the lengths m and n
 pub record StartsRead (p : Model) (m n : ℕ) (r : Result Starts Refusal) : Type 0 where
   pub checks : Checked (starts_checks p m n) (answer r)
-  pub told : IfOk r (λ s. (s.lefts.items ≡ starts p.left.table) × (s.rights.items ≡ starts p.right.table))
+  pub told : IfOk r (λ s. (s.lefts ≡ starts p.left.table) × (s.rights ≡ starts p.right.table))

@@ -15,6 +15,7 @@ use Rattle.journal.specs.declared.replies.Reply.{Reply}
 use Rattle.journal.specs.declared.entries.Journal.{Journal}
 use Rattle.journal.specs.declared.unstarted.Unstarted.{Unstarted}
 use Rattle.journal.specs.Calls.{call_of, reply_of}
+use Rattle.journal.specs.Kinds.{AnswersEach}
 use Rattle.journal.specs.Networks.{LeavesAfter}
 
 -- a call with its reply leads every run that led to p on to q
@@ -50,11 +51,12 @@ module _ {L R S : Type 0} {a : NetworkGhosts L S} {s : ScaleGhosts S} {b : Netwo
   Begins (Ok u) = Founds l r lws rws (Ok u.0) × (u.1 ≡ j)
   Begins (Err u) = Founds {a = a} {s = s} {b = b} l r lws rws (Err u.unfounded) × (u.journal ≡ j)
 
-  -- a reply for each call; the law over the founding and these calls with these replies; and which networks the replies hand back
-  -- and which stand at the end, from the founding ones on. Or not founded
+  -- a reply for each call; the law over the founding and these calls with these replies; which networks the replies hand back
+  -- and which stand at the end, from the founding ones on; and each reply of its call's kind. Or not founded
   abbrev pub Replays : Result (Plan L R S a s b × Vec (Reply L R) Global) (Unstarted L R) → Type 0
   Replays (Ok u) =
       (length u.1.items ≡ length j.calls.items)
       × Holds s.algebra (after (found (a.meaning l) (b.meaning r) lws rws) (calls_of a.meaning b.meaning j) (replies_of u.1)) (model u.0)
       × LeavesAfter l r j.calls.items u.1.items u.0.left.network u.0.right.network
+      × AnswersEach j.calls.items u.1.items
   Replays (Err u) = Begins (Err u)

@@ -1,3 +1,4 @@
 pub mod Calls
 pub mod Journals
+pub mod Kinds
 pub mod Networks

@@ -1,15 +1,13 @@
 // Carrying out one call.
-ghost use Rattle.std.specs.Prelude.{◌≡◌, ◌<◌, OnErr, IfOk, IfErr};
-ghost use Rattle.arrayvec.specs.ArrayVec.{array_vec_len};
-ghost use Rattle.network.specs.Refusals.{number};
 ghost use Rattle.plan.specs.Models.{model};
 ghost use Rattle.journal.specs.Calls.{call_of, reply_of, StartsRead};
 ghost use Rattle.journal.specs.Journals.{Stepped};
+ghost use Rattle.journal.specs.Kinds.{Answers};
 ghost use Rattle.journal.specs.Networks.{Leaves};
 
 use crate::calls::Call;
 use crate::replies::{Reply, Starts};
-use arrayvec::ArrayVec;
+use crate::start_list::StartList;
 use network::{Network, Refusal};
 use plan::Plan;
 
@@ -18,8 +16,9 @@ pub fn carry_out<L: Network, R: Network<Over = L::Over>>(
     plan: &mut Plan<L, R>,
     call: Call<L, R>,
 ) -> Reply<L, R>
-    ensures steps { Stepped L.Over.Scale.algebra (model plan.old) (call_of L.Network.meaning R.Network.meaning call) (reply_of result) (model plan.new) }
+    ensures answers { Answers call result }
     ensures networks { Leaves plan.old.left.network plan.old.right.network call result plan.new.left.network plan.new.right.network }
+    ensures steps { Stepped L.Over.Scale.algebra (model plan.old) (call_of L.Network.meaning R.Network.meaning call) (reply_of result) (model plan.new) }
 {
     match call {
         Call::Lower { place, ceiling } => Reply::Changed(plan.lower(place, ceiling)),
@@ -47,22 +46,20 @@ fn read_starts<L: Network, R: Network<Over = L::Over>>(
 ) -> Result<Starts, Refusal>
     ensures { StartsRead (model plan.now) left_count right_count result }
 {
-    let mut lefts = list_of(left_count)?;
-    let mut rights = list_of(right_count)?;
-    plan.starts(&mut lefts, &mut rights)?;
-    Ok(Starts { lefts, rights })
-}
-
-// A list of this length: 12.
-fn list_of(count: usize) -> Result<ArrayVec<i32, 32>, Refusal>
-    ensures size { IfOk result (λ list. array_vec_len list ≡ count) }
-    ensures long { OnErr result (32 < count) }
-    ensures told { IfErr result (λ e. number e ≡ 12) }
-{
-    let mut list = ArrayVec::from([0; 32]);
-    if count > list.len() {
+    if left_count > 32 || right_count > 32 {
         return Err(Refusal::Lengths);
     }
-    list.truncate(count);
-    Ok(list)
+    let mut lefts = [0; 32];
+    let mut rights = [0; 32];
+    plan.starts(&mut lefts[..left_count], &mut rights[..right_count])?;
+    Ok(Starts {
+        lefts: StartList {
+            places: lefts,
+            count: left_count,
+        },
+        rights: StartList {
+            places: rights,
+            count: right_count,
+        },
+    })
 }

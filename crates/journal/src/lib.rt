@@ -7,6 +7,7 @@ mod entries;
 mod replaying;
 mod replies;
 mod room;
+mod start_list;
 mod unstarted;
 
 pub use calls::Call;
@@ -14,4 +15,5 @@ pub use carrying::carry_out;
 pub use entries::Journal;
 pub use replaying::replay;
 pub use replies::{Reply, Starts};
+pub use start_list::StartList;
 pub use unstarted::Unstarted;

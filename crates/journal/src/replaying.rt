@@ -1,6 +1,7 @@
 // Carrying out a whole journal.
 ghost use Rattle.plan.specs.Models.{model};
 ghost use Rattle.journal.specs.Journals.{Replayed, Begins, Replays, calls_of, replies_of};
+ghost use Rattle.journal.specs.Kinds.{AnswersEach};
 ghost use Rattle.journal.specs.Networks.{LeavesAfter};
 
 use crate::carrying::carry_out;
@@ -50,6 +51,7 @@ fn carry_out_all<L: Network + Drop, R: Network<Over = L::Over> + Drop>(
     journal: Journal<L, R>,
 ) -> Vec<Reply<L, R>>
     ensures networks { LeavesAfter plan.old.left.network plan.old.right.network journal.calls.items result.items plan.new.left.network plan.new.right.network }
+    ensures answers { AnswersEach journal.calls.items result.items }
     ensures runs { Replayed L.Over.Scale.algebra (model plan.old) (calls_of L.Network.meaning R.Network.meaning journal) (replies_of result) (model plan.new) }
 {
     let Journal {

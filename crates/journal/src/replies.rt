@@ -1,14 +1,14 @@
 // What a call answers.
-use arrayvec::ArrayVec;
+use crate::start_list::StartList;
 use model::{State, Window};
 use network::Refusal;
 use plan::Unexchanged;
 
 // The starts of both sides.
-#[derive(Clone, Debug, PartialEq, Eq, Drop)]
+#[derive(Clone, Copy, Debug, PartialEq, Eq)]
 pub struct Starts {
-    pub lefts: ArrayVec<i32, 32>,
-    pub rights: ArrayVec<i32, 32>,
+    pub lefts: StartList,
+    pub rights: StartList,
 }
 
 #[derive(Drop)]

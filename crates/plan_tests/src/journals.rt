@@ -1,5 +1,5 @@
 use crate::halls::{Hall, first_halls, place, starts, window};
-use journal::{Call, Journal, Reply, replay};
+use journal::{Call, Journal, Reply, StartList, replay};
 use model::State;
 use network::Refusal;
 use std::alloc::Global;
@@ -73,5 +73,19 @@ fn unfounded_journal(rt: HostRuntime) -> Result<(), Fail> {
         return Err(Fail::new("founded"));
     };
     assert_eq!(rt; back.unfounded.fault.refusal, Refusal::Crossed);
+    Ok(())
+}
+
+#[test]
+fn start_lists(rt: HostRuntime) -> Result<(), Fail> {
+    let Some(list) = StartList::new(&[97, 98]) else {
+        return Err(Fail::new("not made"));
+    };
+    let copy = list;
+    assert_eq!(rt; list, copy);
+    assert!(rt; Some(list) != StartList::new(&[97, 98, 0]));
+    assert_eq!(rt; list.as_slice(), [97, 98].as_slice());
+    assert_eq!(rt; format!(in rt.alloc(); "{list:?}")?.as_str(), "[97, 98]");
+    assert_eq!(rt; StartList::new(&[0; 33]), None);
     Ok(())
 }

@@ -1,6 +1,7 @@
 use Rattle.std.proofs.Common.{◌≡◌, [], ◌∷◌, deque_len, refl, ap, ◌∙◌, append_assoc, arith, rules}
 use Rattle.std.proofs.lemmas.List.{nil_from_length, map-append}
 use Rattle.journal.proofs.Histories.{replay_none, replay_more}
+use Rattle.journal.proofs.Answered.{answers_more}
 use Rattle.journal.proofs.Standing.{leaves_more}
 use Rattle.journal.proofs.replaying.carry_out_all.Goals as goal
 
@@ -13,6 +14,7 @@ loop-call-init g c =
       in_order = refl;
       carried = rw blank (replay_none _ _);
       stand = rw blank (refl, refl);
+      answers = rw blank tt;
       room = omega (arith, c.args.journal.blank, c.args.journal.enough, ap deque_len c.into_iter-call-iterator.ensures.into_iter_gives.0);
     }
 
@@ -27,5 +29,6 @@ loop-call-preserved g c =
       in_order = append_assoc at.yielded (call ∷ []) _ ∙ rw (← steps.0) at.invariant.in_order;
       carried = simp (map-append, c.push_reserved.ensures.items) (replay_more _ _ _ _ _ _ _ _ at.invariant.carried c.carry_out.ensures.steps);
       stand = rw c.push_reserved.ensures.items (leaves_more _ _ at.yielded _ _ _ call c.carry_out.result _ _ at.invariant.stand c.carry_out.ensures.networks);
+      answers = rw c.push_reserved.ensures.items (answers_more at.yielded at.replies.items call c.carry_out.result at.invariant.answers c.carry_out.ensures.answers);
       room = omega (arith, at.invariant.room, steps.1, c.push_reserved.ensures.len, c.push_reserved.ensures.capacity);
     }

@@ -16,9 +16,11 @@ returns g c =
     let founded = c.in_ok-plan.ensures in
     let stand = founded.0.1 in
     let run = rw founded.1 at c.carry_out_all-replies.ensures.runs in
-    let networks = rw (stand.left, stand.right, founded.1) at c.carry_out_all-replies.ensures.networks in (
+    let networks = rw (stand.left, stand.right, founded.1) at c.carry_out_all-replies.ensures.networks in
+    let answers = rw founded.1 at c.carry_out_all-replies.ensures.answers in (
       sym (length-map c.carry_out_all-replies.result.items reply_of) ∙ run.each ∙ length-map c.args.journal.calls.items (call_of a b),
       replayed g.L.Over.Scale.algebra g.met.L.Over.Scale.lawful (a c.args.left) (b c.args.right) c.args.lefts.now c.args.rights.now _ _ _ _
           (g.met.L.Network.lawful c.args.left) (g.met.R.Network.lawful c.args.right) founded.0.0 run,
       networks,
+      answers,
     )
