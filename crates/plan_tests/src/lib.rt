@@ -8,4 +8,6 @@ mod journals;
 #[cfg(test)]
 mod refusals;
 #[cfg(test)]
+mod sides;
+#[cfg(test)]
 mod worked;
