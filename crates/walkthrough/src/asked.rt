@@ -64,10 +64,7 @@ pub(crate) const STORY: [(&str, Step); 20] = [
         "Lower the ceiling of left bench 1 to 50",
         Step::Ceiling(1, 50),
     ),
-    (
-        "Loosen right bench 0 to the window 0 to 100",
-        Step::Loosen,
-    ),
+    ("Loosen right bench 0 to the window 0 to 100", Step::Loosen),
     ("Advance, with 199 rounds granted", Step::Advance(199)),
     ("Read the starts", Step::ReadStarts),
 ];
