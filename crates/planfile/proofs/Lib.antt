@@ -11,3 +11,4 @@ mod WindowsWritten
 mod HeadWritten
 mod FilesWritten
 mod FilesLaw
+pub mod Spares

@@ -6,6 +6,7 @@ pub mod Files
 pub mod Sound
 pub mod Documents
 pub mod Laws
+pub mod Spares
 pub mod Handed
 pub mod Contents
 pub mod Answers

@@ -60,6 +60,18 @@ fn the_windows_of_a_side(rt: HostRuntime) -> Result<(), Fail> {
 }
 
 #[test]
+fn windows_of_zeros(rt: HostRuntime) -> Result<(), Fail> {
+    let mut file = FILE;
+    for at in [53, 62, 71] {
+        file[at] = 0;
+    }
+    let plan = minutes(&file)?;
+    assert_ne!(rt; plan.lefts, plan.rights);
+    assert_eq!(rt; plan.rights, minutes(&with_number(68, 0))?.rights);
+    Ok(())
+}
+
+#[test]
 fn limits_of_minutes(rt: HostRuntime) -> Result<(), Fail> {
     assert_eq!(rt;
         minutes(&with_number(9, 1_000_000))?.left.cell(0, 0),
