@@ -2,3 +2,4 @@ mod Turns
 mod Fills
 mod WindowChecks
 pub mod Parts
+pub mod Spares

@@ -7,10 +7,11 @@ use Rattle.network.specs.Networks.{Meaning}
 use Rattle.model.specs.declared.bench.Bench.{Bench}
 use Rattle.model.specs.Plans.{Hall as TheHall, starts, cut, cut_by, same_list, unmoved}
 use Rattle.benches.specs.declared.hall.Hall.{Hall}
+use Rattle.benches.specs.Records.{records}
 
 -- what a hall of the code stands for: the meaning of its network, and its records
 abbrev pub hall : {N S : Type 0} {n : NetworkGhosts N S} {s : ScaleGhosts S} → Hall N S n s → TheHall
-hall {n = n} h = record { network = n.meaning h.network; table = h.benches }
+hall {n = n} h = record { network = n.meaning h.network; table = records h.benches }
 
 -- the latest starts of b at the arrivals of a with the starts x, unless a length is wrong
 abbrev pub LimitedBy : {U : Type 0} → Meaning → List ℤ → Meaning → List ℤ → List ℤ → Result U Refusal → Type 0

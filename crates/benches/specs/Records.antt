@@ -1,8 +1,13 @@
 -- The records of a side's benches. Assumes nothing.
-use Rattle.std.specs.Prelude.{◌≡◌, ℕ, ◌<◌, ◌≤◌, List, length, Some, None, Option, slice_index_or}
+use Rattle.std.specs.Prelude.{◌≡◌, ℕ, ◌<◌, ◌≤◌, List, length, take, Some, None, Option, slice_index_or}
 use Rattle.model.specs.declared.bench.Bench.{Bench}
 use Rattle.model.specs.Calls.{no_bench}
+use Rattle.benches.specs.declared.table.Benches.{Benches}
 use Rattle.model.specs.Sheets.{window, fresh_bench}
+
+-- the records that are held
+abbrev pub records : Benches → List Bench
+records b = take b.count b.rows
 
 -- a bench at a fresh start
 abbrev pub renew_bench : Bench → Bench

@@ -1,6 +1,7 @@
 // Half a round. A network writes into a slice of an array: a vector of fixed capacity would be made of that array and cut.
 ghost use Rattle.std.specs.Prelude.{◌≡◌, length};
 ghost use Rattle.model.specs.Plans.{starts, cut, same_list};
+ghost use Rattle.benches.specs.Records.{records};
 ghost use Rattle.benches.specs.Halves.{hall, LimitedBy, CutBy, RecordsCut};
 
 use crate::hall::Hall;
@@ -31,8 +32,8 @@ pub fn cut_by<A: Network, B: Network<Over = A::Over>>(
     follower: &B,
     benches: &mut Benches,
 ) -> bool
-    ensures cut { RecordsCut (A.Network.meaning leader.now) lead.now (B.Network.meaning follower.now) benches.old benches.new result }
-    ensures count { length benches.new ≡ length benches.old }
+    ensures cut { RecordsCut (A.Network.meaning leader.now) (records lead.now) (B.Network.meaning follower.now) (records benches.old) (records benches.new) result }
+    ensures count { length (records benches.new) ≡ length (records benches.old) }
 {
     let mut room = [0; 32];
     let limits = &mut room[..benches.count()];
@@ -46,7 +47,7 @@ fn write_limits<A: Network, B: Network<Over = A::Over>>(
     follower: &B,
     out: &mut [i32],
 ) -> Result<(), Refusal>
-    ensures { LimitedBy (A.Network.meaning leader.now) (starts lead.now) (B.Network.meaning follower.now) out.old out.new result }
+    ensures { LimitedBy (A.Network.meaning leader.now) (starts (records lead.now)) (B.Network.meaning follower.now) out.old out.new result }
 {
     let mut room = [0; 32];
     let starts = &mut room[..lead.count()];
@@ -72,12 +73,12 @@ fn latest_at<A: Network, B: Network<Over = A::Over>>(
 impl Benches {
     // Each start becomes the smaller of itself and its limit. Says whether none changed.
     fn cut(&mut self, limits: &[i32]) -> bool
-        requires { length self.old ≡ length limits.now }
-        ensures table { self.new ≡ cut self.old limits.now }
-        ensures count { length self.new ≡ length self.old }
-        ensures rests { result ≡ same_list (starts self.old) (starts self.new) }
+        requires { length (records self.old) ≡ length limits.now }
+        ensures table { records self.new ≡ cut (records self.old) limits.now }
+        ensures count { length (records self.new) ≡ length (records self.old) }
+        ensures rests { result ≡ same_list (starts (records self.old)) (starts (records self.new)) }
     {
         let count = self.count;
-        cut_rows(&mut self.rows[..count], limits)
+        cut_rows(&mut self.rows[0..count], limits)
     }
 }

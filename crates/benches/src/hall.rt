@@ -1,5 +1,6 @@
 // One side of a plan.
 ghost use Rattle.std.specs.Prelude.{◌≡◌, length};
+ghost use Rattle.benches.specs.Records.{records};
 
 use crate::table::Benches;
 use network::Network;
@@ -9,5 +10,5 @@ use network::Network;
 pub struct Hall<N: Network> {
     pub network: N,
     pub benches: Benches,
-    ghost one_each: { length benches ≡ (N.Network.meaning network).benches },
+    ghost one_each: { length (records benches) ≡ (N.Network.meaning network).benches },
 }

@@ -4,6 +4,7 @@
 mod checks;
 mod half;
 mod hall;
+mod listed;
 mod records;
 mod rows;
 mod table;

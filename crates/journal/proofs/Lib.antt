@@ -3,3 +3,4 @@ mod Fronts
 mod Steps
 mod Histories
 mod Standing
+pub mod Spares

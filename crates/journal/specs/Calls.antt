@@ -14,6 +14,7 @@ use Rattle.journal.specs.declared.calls.Call.{Call}
 use Rattle.journal.specs.declared.calls.Call.TheVariants.{Lower, Raise, Loosen, ExchangeLeft, ExchangeRight, Advance, Adopt, ReadState, ReadSlack, ReadWindow, ReadStarts}
 use Rattle.journal.specs.declared.replies.Starts.{Starts}
 use Rattle.journal.specs.declared.replies.Reply.{Reply}
+use Rattle.journal.specs.Starts.{starts_in}
 use Rattle.journal.specs.declared.replies.Reply.TheVariants.{Changed, ExchangedLeft, ExchangedRight, Advanced, StateIs, SlackIs, WindowIs, StartsAre}
 
 -- a network counts by its meaning
@@ -32,7 +33,7 @@ call_of a b (ReadStarts m n) = reading (the_starts m n)
 
 -- the starts that a reading tells
 abbrev pub starts_reply : Starts → TheReply
-starts_reply s = starts_are s.lefts s.rights
+starts_reply s = starts_are (starts_in s.lefts) (starts_in s.rights)
 
 -- a refusal, or what f makes of what is told
 abbrev pub told_reply : {T : Type 0} → (T → TheReply) → Result T Refusal → TheReply
@@ -53,4 +54,4 @@ reply_of (StartsAre r) = told_reply starts_reply r
 -- the starts of p, read into lists of the lengths m and n
 pub record StartsRead (p : Model) (m n : ℕ) (r : Result Starts Refusal) : Type 0 where
   pub checks : Checked (starts_checks p m n) (answer r)
-  pub told : IfOk r (λ s. (s.lefts ≡ starts p.left.table) × (s.rights ≡ starts p.right.table))
+  pub told : IfOk r (λ s. (starts_in s.lefts ≡ starts p.left.table) × (starts_in s.rights ≡ starts p.right.table))

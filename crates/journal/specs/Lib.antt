@@ -1,3 +1,4 @@
+pub mod Starts
 pub mod Calls
 pub mod Journals
 pub mod Kinds

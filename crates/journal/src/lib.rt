@@ -4,6 +4,7 @@
 mod calls;
 mod carrying;
 mod entries;
+mod listed;
 mod replaying;
 mod replies;
 mod room;

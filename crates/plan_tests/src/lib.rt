@@ -6,6 +6,8 @@ mod halls;
 #[cfg(test)]
 mod journals;
 #[cfg(test)]
+mod lent;
+#[cfg(test)]
 mod refusals;
 #[cfg(test)]
 mod sides;

@@ -11,7 +11,7 @@ invariant_of-result g c =
     let xs = c.starts.new.lefts in
     let few : n ≤ 32 = omega arith in
     let all : length xs ≡ n = search rules in
-    (few, front_length n xs few all, front_rest n xs few all)
+    record { few = few; full = front_length n xs few all; spare = front_rest n xs few all }
 
 pub invariant_of-result-2 : goal.invariant_of-result-2
 invariant_of-result-2 g c =
@@ -19,7 +19,7 @@ invariant_of-result-2 g c =
     let xs = c.starts.new.rights in
     let few : n ≤ 32 = omega arith in
     let all : length xs ≡ n = search rules in
-    (few, front_length n xs few all, front_rest n xs few all)
+    record { few = few; full = front_length n xs few all; spare = front_rest n xs few all }
 
 pub returns : goal.returns
 returns g c =

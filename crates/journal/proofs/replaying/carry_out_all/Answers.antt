@@ -1,5 +1,6 @@
-use Rattle.std.proofs.Common.{◌≡◌, [], ◌∷◌, deque_len, refl, ap, ◌∙◌, append_assoc, arith, rules}
-use Rattle.std.proofs.lemmas.List.{nil_from_length, map-append}
+use Rattle.std.proofs.Common.{◌≡◌, [], ◌∷◌, ◌++◌, deque_len, sym, refl, ap, ◌∙◌, append_assoc, arith, rules}
+use Rattle.std.specs.Vec.Iter.{into_iter_items}
+use Rattle.std.proofs.lemmas.List.{append-nil, nil_from_length, map-append}
 use Rattle.journal.proofs.Histories.{replay_none, replay_more}
 use Rattle.journal.proofs.Answered.{answers_more}
 use Rattle.journal.proofs.Standing.{leaves_more}
@@ -32,3 +33,10 @@ loop-call-preserved g c =
       answers = rw c.push_reserved.ensures.items (answers_more at.yielded at.replies.items call c.carry_out.result at.invariant.answers c.carry_out.ensures.answers);
       room = omega (arith, at.invariant.room, steps.1, c.push_reserved.ensures.len, c.push_reserved.ensures.capacity);
     }
+
+pub returns-clause-runs : goal.returns-clause-runs
+returns-clause-runs g c =
+    let at = c.loop-call in
+    let none : into_iter_items at.call-iterator ≡ [] = nil_from_length _ (search rules) in
+    let all : at.yielded ≡ c.args.journal.calls.items = sym (append-nil at.yielded) ∙ ap (λ z. at.yielded ++ z) (sym none) ∙ at.invariant.in_order ∙ search rules in
+    rw all at at.invariant.carried

@@ -8,7 +8,8 @@ pub invariant_of-benches : goal.invariant_of-benches
 invariant_of-benches c =
     let few : c.min-count.result ≤ 32 = omega arith in
     let zeros : c.default.result ≡ no_bench = search rules in
-    room_of_zeros c.min-count.result c.default.result few zeros
+    let room = room_of_zeros c.min-count.result c.default.result few zeros in
+    record { few = room.few; full = room.full; spare = room.spare }
 
 pub returns : goal.returns
 returns c =

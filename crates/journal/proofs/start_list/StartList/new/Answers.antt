@@ -8,4 +8,4 @@ invariant_of-result c =
     let xs = c.copy_from_slice.new.self in
     let few : n ≤ 32 = omega arith in
     let all : length xs ≡ n = search rules in
-    (few, front_length n xs few all, front_rest n xs few all)
+    record { few = few; full = front_length n xs few all; spare = front_rest n xs few all }
