@@ -51,6 +51,10 @@ fn lent_plan<'a>(
     Ok(plan)
 }
 
+fn passed_on<'a>(kept: Option<(Benches, &'a str)>) -> Option<(Benches, &'a str)> {
+    kept
+}
+
 #[test]
 fn lent_networks(rt: HostRuntime) -> Result<(), Fail> {
     let (left, right) = first_halls()?;
@@ -82,8 +86,10 @@ fn lists_beside_texts(rt: HostRuntime) -> Result<(), Fail> {
     ))?;
     let last = told.pop().map(|(note, told)| (note, told.rights));
     assert_eq!(rt; last, Some(("first", list)));
-    let benches = Benches::fresh(&[window(0, 5)]);
-    let pair = (benches, benches);
-    assert_eq!(rt; pair.1.count(), 1);
+    let kept = passed_on(Some((Benches::fresh(&[window(0, 5)]), "kept")));
+    assert_eq!(rt;
+        kept.map(|(benches, note)| (benches.count(), note)),
+        Some((1, "kept"))
+    );
     Ok(())
 }
